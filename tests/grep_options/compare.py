@@ -5,11 +5,12 @@ that has the same --crlf."""
 import itertools
 import os
 import random
+import re
 
 from . import crlf_rows, syntax
 from .files import FILES, LARGE, PATTERN_FILES
 from .known import GREP, RIPGREP, Case
-from .options import CRLF, CRLF_FILES, OPTIONS, PATTERNS, pairs
+from .options import CRLF, CRLF_FILES, OPTIONS, PATTERNS, line_choices, pairs
 from .report import report
 
 SEED = 20261130
@@ -53,6 +54,33 @@ def cases(options, added, names, most):
 def one_ending(result):
     """The result with each line ended by a line feed alone."""
     return result[0], result[1].replace(b"\r\n", b"\n")
+
+
+# the options on lines in different words
+LINE_WORDS = [
+    (["-nM12"], ["-n", "--max-columns", "12"]),
+    (["-M", "4", "-2"], ["--max-columns=4", "-C2"]),
+    (["-1M4"], ["-C1", "-M4"]),
+    (["-M4", "-M", "0"], []),
+    (["--passthrough"], ["--passthru"]),
+    (["--vimgrep", "-n", "--column"], ["--vimgrep"]),
+    (["--vimgrep", "-c"], ["-H", "-c"]),
+]
+
+
+def line_cases(is_for_ripgrep, most):
+    """Choices of options on lines, each with one pattern. If `most` isn't None, so many of them are picked."""
+    pick = random.Random(SEED)
+    choices = line_choices(is_for_ripgrep)
+    for chosen in choices if most is None else pick.sample(choices, most):
+        yield Case(chosen, pick.choice(PATTERNS), SMALL)
+
+
+def marked_matches(result):
+    """The result with `<` and `>` around matches that are marked, instead of what marks them and all else for a terminal."""
+    printed = re.sub(rb"\x1b\[0m\x1b\[1m\x1b\[31m(.*?)\x1b\[0m", rb"<\1>", result[1])
+    printed = re.sub(rb"\x1b\[01;31m\x1b\[K(.*?)\x1b\[m\x1b\[K", rb"<\1>", printed)
+    return result[0], re.sub(rb"\x1b\[[0-9;]*[mK]", b"", printed).replace(b"><", b"")
 
 
 class Comparison:
@@ -109,6 +137,27 @@ class Comparison:
                 ours = one_ending(report(case.asked(), case.data()))
                 self.check(words, ("the definition", ours), ("ripgrep", one_ending(self.run(words, b""))))
 
+    def compare_lines(self, most):
+        for case in line_cases(False, most):
+            words = words_of(case)
+            self.check(words, ("hirgrep", self.run([self.program, *words], b"")), ("the definition", report(case.asked(), case.data())))
+
+    def check_line_words(self):
+        """The options on lines in other words, and values that aren't read."""
+        for words, others in LINE_WORDS:
+            first, second = (self.run([self.program, *it, "-e", "a", "words", "signs"], b"") for it in (words, others))
+            self.check(words, (f"hirgrep {' '.join(words)}", first), (f"hirgrep {' '.join(others)}", second))
+        for words in (["-M"], ["-Mx"], ["--max-columns=-1"], ["--max-columns=18446744073709551616"], ["--column=1"], ["--trim=x"]):
+            self.check(words, ("hirgrep", self.run([self.program, "-e", "a", "words", *words], b"")), ("hand", (2, b"")))
+
+    def compare_lines_with_ripgrep(self, most):
+        for case in line_cases(True, most):
+            case = without_known(RIPGREP, case)
+            if case.files:
+                words = [*RIPGREP_WORDS, *words_of(case, lambda it: it.ripgrep)]
+                ours = marked_matches(one_ending(report(case.asked(), case.data())))
+                self.check(words, ("the definition", ours), ("ripgrep", marked_matches(one_ending(self.run(words, b"")))))
+
     def check_rows(self):
         for words, status, printed, _ in crlf_rows.ROWS:
             words = ["--crlf", *words]
@@ -150,6 +199,8 @@ def compare_options(program, room, run, complain, tools, is_all):
     in_returns.check_rows()
     in_returns.check_syntax("grep" in tools)
     in_options.compare_crlf(None if is_all else 1)
+    in_options.compare_lines(None if is_all else 600)
+    in_options.check_line_words()
     if "grep" in tools:
         in_options.compare_with_grep(None if is_all else 2)
         in_options.compare_inputs(3)
@@ -157,3 +208,4 @@ def compare_options(program, room, run, complain, tools, is_all):
     if "rg" in tools:
         in_returns.compare_rows_with_ripgrep()
         in_options.compare_definition_with_ripgrep(None if is_all else 1)
+        in_options.compare_lines_with_ripgrep(None if is_all else 600)

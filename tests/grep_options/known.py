@@ -123,6 +123,13 @@ def has_other_context(case):
     return sum(it.is_context or it.name in ("-o", "-m1", "-m2") for it in case.options) > 1 and any(it.is_context for it in case.options)
 
 
+def has_other_empty_matches(case):
+    """ripgrep 13 finds no empty match at the end of a last line without a line feed. Options on lines show where they are, and how many."""
+    shows = case.has("--vimgrep", "--column") or case.has("-M1", "-M4", "--max-columns 12") and case.has("--color=always")
+    is_open = any(not it.endswith(b"\n") for it in case.data().values())
+    return shows and case.may_be_empty() and is_open
+
+
 GREP = [
     selects_no_line,
     takes_fewer_than_none,
@@ -142,4 +149,5 @@ RIPGREP = [
     misses_matches,
     counts_though_names_are_asked_for,
     has_other_context,
+    has_other_empty_matches,
 ]

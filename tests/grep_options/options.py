@@ -18,7 +18,7 @@ class Option:
 
     @property
     def is_context(self):
-        return self.name[:2] in ("-A", "-B", "-C")
+        return self.name[:2] in ("-A", "-B", "-C") or self.name == "--passthru"
 
 
 def same(word, **effect):
@@ -85,6 +85,18 @@ OPTIONS = [
     own("-f", "patterns_empty", patterns=("",)),
     own("-f", "patterns_none"),
 ]
+# how lines are printed, as ripgrep does it
+LINE_OPTIONS = [
+    same("--column", columns=True, numbers=True),
+    same("--vimgrep", columns=True, numbers=True, each=True),
+    same("--trim", trim=True),
+    same("-M1", most_bytes=1),
+    same("-M4", most_bytes=4),
+    Option(("--max-columns", "12"), {"most_bytes": 12}, ("-M12",)),
+    same("-M0", most_bytes=None),
+    same("--passthru", passthru=True),
+]
+COLOR = same("--color=always", color=True)
 CRLF = same("--crlf", crlf=True)
 CRLF_FILES = [
     own("-f", "patterns_crlf", patterns=("ab", "x")),
@@ -120,6 +132,19 @@ def asked_of(pattern, options):
         effect["patterns"] = asked.patterns + effect.get("patterns", ())
         asked = replace(asked, **effect)
     return asked
+
+
+USUAL = "-v -o -n -H -h -c -l -b -m1 -A1 -B1 -C1 -Z -T --color=always".split()
+
+
+def line_choices(is_for_ripgrep):
+    """Each option on lines and each two of them, alone, with each other option and with two of the usual ones."""
+    others = [*OPTIONS, CRLF]
+    if is_for_ripgrep:
+        others = [COLOR, *(it for it in others if it.ripgrep)]
+    lines = [*((it,) for it in LINE_OPTIONS), *itertools.combinations(LINE_OPTIONS, 2)]
+    usual = itertools.combinations([it for it in others if it.name in USUAL], 2)
+    return [(*some, *more) for some, more in itertools.product(lines, [(), *((it,) for it in others), *usual])]
 
 
 def pairs(options):

@@ -28,15 +28,20 @@ class Asked:
     count: bool = False
     matches: bool = False
     numbers: bool = False
+    columns: bool = False
+    each: bool = False
     offsets: bool = False
     names: bool | None = None
     before: int | None = None
     after: int | None = None
     both: int | None = None
+    passthru: bool = False
     most: int | None = None
     color: bool = False
     zero_names: bool = False
     tab: bool = False
+    trim: bool = False
+    most_bytes: int | None = None
     width: int = 0
     group: bytes | None = b"--"
 
@@ -47,6 +52,7 @@ class Line:
     offset: int
     printed: bytes
     matched: bytes
+    is_ended: bool
 
 
 def python_of(pattern):
@@ -69,7 +75,7 @@ def lines_of(asked, data):
     for number, line in enumerate(data.split(b"\n")[: -1 if data.endswith(b"\n") or not data else None], 1):
         is_ended = offset + len(line) < len(data)
         matched = line[:-1] if asked.crlf and is_ended and line.endswith(b"\r") else line
-        lines.append(Line(number, offset, line, matched))
+        lines.append(Line(number, offset, line, matched, is_ended))
         offset += len(line) + 1
     return lines
 
@@ -93,13 +99,24 @@ def length_of(text):
     return len(text.encode("utf-8", "surrogateescape"))
 
 
+def match_at(regex, line, offset):
+    """The offsets of the match that starts at this one, if there is one. A character in which it is counts as bytes that aren't part of one."""
+    before, after = (it.decode("utf-8", "surrogateescape") for it in (line[:offset], line[offset:]))
+    found = regex.match(before + after, len(before))
+    return found and (offset, offset + length_of(found[0]))
+
+
 def spans_of(regex, line):
-    """The offsets of the matches in bytes, but of empty ones."""
-    text, spans = text_of(line), []
-    for start, end in all_matches(regex, text):
-        if start < end:
-            before = length_of(text[:start])
-            spans.append((before, before + length_of(text[start:end])))
+    """The offsets of the matches in bytes. Empty ones are found inside characters too."""
+    if line.matched.isascii():
+        return list(all_matches(regex, text_of(line)))
+    at, last, spans = 0, None, []
+    while found := next((it for it in (match_at(regex, line.matched, i) for i in range(at, len(line.matched) + 1)) if it), None):
+        if found == (last, last):
+            at, last = last + 1, None
+            continue
+        spans.append(found)
+        at = last = found[1]
     return spans
 
 
@@ -143,8 +160,10 @@ def name_field(asked, name, sign):
     return b"" if name is None else name_before(asked, name, coloured(asked, b"36", sign))
 
 
-def fields(asked, name, line, offset, sign):
+def fields(asked, name, line, column, offset, sign):
+    """column is None for a line without a match that is shown."""
     shown = [line.number] if asked.numbers else []
+    shown += [column] if asked.columns and column is not None else []
     shown += [offset] if asked.offsets else []
     numbers = [field(asked, b"32", b"%*d" % (asked.width, it), sign) for it in shown]
     return name_field(asked, name, sign) + b"".join(numbers)
@@ -154,23 +173,62 @@ def tab(asked, name, text):
     return b"\t" if asked.tab and text and (name is not None or asked.numbers or asked.offsets) else b""
 
 
-def marked(asked, line, spans):
+def trimmed(asked, text):
+    return text.lstrip(b"\t\n\v\f\r ") if asked.trim else text
+
+
+def marked(asked, text, left, spans):
+    """The text is a line without so many bytes at its beginning. Empty matches aren't marked."""
     parts, at = [], 0
     for start, end in spans:
-        parts += [line.printed[at:start], coloured(asked, b"01;31", line.printed[start:end])]
+        start, end = max(start - left, 0), max(end - left, 0)
+        parts += [text[at:start], coloured(asked, b"01;31", text[start:end]) if start < end else b""]
         at = end
-    return b"".join(parts) + line.printed[at:]
+    return b"".join(parts) + text[at:]
+
+
+def omission(is_selected, count):
+    if count:
+        return b"[Omitted long line with %d matches]" % count
+    return b"[Omitted long matching line]" if is_selected else b"[Omitted long context line]"
+
+
+def exceeds(asked, length):
+    return asked.most_bytes is not None and length > asked.most_bytes
+
+
+def line_text(asked, name, line, is_selected, spans, count):
+    """A line after its fields, with these matches marked in it. It has so many."""
+    if exceeds(asked, len(line.printed) + line.is_ended):
+        text = shown = omission(is_selected, count)
+    else:
+        text = trimmed(asked, line.printed)
+        shown = marked(asked, text, len(line.printed) - len(text), spans)
+    return tab(asked, name, text) + shown + b"\n"
+
+
+def match_text(asked, name, text, is_selected):
+    if exceeds(asked, len(text)):
+        text = shown = omission(is_selected, 0)
+    else:
+        text = trimmed(asked, text)
+        shown = coloured(asked, b"01;31", text) if text else b""
+    return tab(asked, name, text) + shown + b"\n"
 
 
 def printed_line(asked, regex, name, line, is_selected):
     sign = b":" if is_selected else b"-"
     spans = spans_of(regex, line) if is_selected != asked.invert else []
     if asked.matches:
-        texts = [(line.offset + start, line.printed[start:end]) for start, end in spans]
-        rows = [(offset, text, coloured(asked, b"01;31", text)) for offset, text in texts]
+        rows = [(it[0], it[0], match_text(asked, name, line.printed[slice(*it)], is_selected)) for it in spans if it[0] < it[1]]
     else:
-        rows = [(line.offset, line.printed, marked(asked, line, spans))]
-    return b"".join(fields(asked, name, line, offset, sign) + tab(asked, name, text) + row + b"\n" for offset, text, row in rows)
+        spans = spans if asked.color or asked.columns or asked.each else []
+        texts = [(it[0], it[0], [it]) for it in spans] if asked.each else []
+        texts = texts or [(spans[0][0] if spans else None, 0, spans)]
+        rows = [(start, offset, line_text(asked, name, line, is_selected, it, len(spans))) for start, offset, it in texts]
+    return b"".join(
+        fields(asked, name, line, None if start is None else start + 1, line.offset + offset, sign) + row for start, offset, row in rows
+    )
 
 
 def printed_lines(asked, regex, name, lines, selected, known):
@@ -179,10 +237,10 @@ def printed_lines(asked, regex, name, lines, selected, known):
     has_groups = before is not None or after is not None
     out = b""
     for index, line in enumerate(lines):
-        if not is_near(selected, index, before, after):
+        if not asked.passthru and not is_near(selected, index, before, after):
             known = known and "earlier"
             continue
-        if known == "earlier" and has_groups and asked.group is not None:
+        if known == "earlier" and has_groups and not asked.passthru and asked.group is not None:
             out += coloured(asked, b"36", asked.group) + b"\n"
         out += printed_line(asked, regex, name, line, selected[index])
         known = "last"
@@ -213,8 +271,9 @@ def report_of_file(asked, regex, name, has_name, data, known):
 def report(asked, files):
     """Status and output for these files, by name."""
     regex, known, out, status = regex_of(asked), None, b"", 1
-    has_name = len(files) > 1 if asked.names is None else asked.names
-    if asked.most == 0 and not asked.without:
+    has_name = asked.each or len(files) > 1 if asked.names is None else asked.names
+    prints_all = asked.passthru and not (asked.quiet or asked.with_match or asked.count)
+    if asked.most == 0 and not asked.without and not prints_all:
         return 1, b""
     for name, data in files.items():
         printed, is_any, known = report_of_file(asked, regex, name.encode(), has_name, data, known and "earlier")

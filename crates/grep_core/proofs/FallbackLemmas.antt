@@ -1,7 +1,6 @@
 -- What the toolchain's program finds is what the parsed patterns have.
 use Rattle.std.proofs.Common.{◌≡◌, ℕ, zero, suc, ◌+◌, ◌<◌, Bool, true, false, List, [], ◌∷◌, ◌++◌, All, Bor}
 use Rattle.std.proofs.Common.{length, map, take, slice_index_or, chars, sym, ap, ◌∙◌, subst, arith}
-use Rattle.std.specs.List.{filter}
 use Rattle.std.specs.Prelude.{is_some}
 use Rattle.regex_hir.specs.Find.{find}
 use Rattle.regex_hir.specs.Meaning.{meaning, alt_all}
@@ -18,7 +17,6 @@ use Rattle.grep_core.specs.Fallbacks.{IsTreeOfText, AreTreesOfPatterns, IsProgra
 use Rattle.grep_core.specs.Meant.{line_config}
 use Rattle.pattern_search.specs.Texts.{AreReadAs}
 use Rattle.pattern_search.proofs.ForCallers.{one_same, read_texts}
-use Rattle.grep_core.specs.Report.{is_some_text}
 use Rattle.grep_core.specs.Searchers.{AreReported, IsMatchReported}
 use Rattle.grep_core.specs.declared.patterns.PatternOptions.{PatternOptions}
 use Rattle.grep_core.proofs.SpanLemmas.{same_found, same_has, same_spans, spans_of_matches}
@@ -88,12 +86,12 @@ all_of p line = spans_following (found_at (pattern_of p) line) (length line + 1)
 
 pub told_all : (how : PatternOptions) (texts : List (List ℕ)) (p : Program) (line : List ℕ) (reported : List (ℕ × ℕ)) →
     All (λ x. x < 256) line →
-    reported ≡ filter is_some_text (all_of p line) → IsProgramOf how texts p → AreReported how texts line reported
+    reported ≡ all_of p line → IsProgramOf how texts p → AreReported how texts line reported
 told_all how texts p line reported bytes is it res found =
     let same : (i : ℕ) → found_at (pattern_of p) line i ≡ found_at (line_pattern how res) line i =
     λ i. same_found (pattern_of p) (line_pattern how res) line i (it res found) bytes in
-    is ∙ ap (filter is_some_text)
-    (same_spans (found_at (pattern_of p) line) (found_at (line_pattern how res) line) same (length line + 1)
+    is
+    ∙ same_spans (found_at (pattern_of p) line) (found_at (line_pattern how res) line) same (length line + 1)
     (found_at (pattern_of p) line 0)
     ∙ ap (spans_following (found_at (line_pattern how res) line) (length line + 1)) (same 0)
-    ∙ sym (spans_of_matches (find (line_pattern how res) line) (length line + 1) (find (line_pattern how res) line 0)))
+    ∙ sym (spans_of_matches (find (line_pattern how res) line) (length line + 1) (find (line_pattern how res) line 0))

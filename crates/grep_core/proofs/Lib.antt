@@ -1,3 +1,4 @@
+mod BlankLemmas
 mod BlockLemmas
 mod BoundedLemmas
 mod BoundedTreeLemmas

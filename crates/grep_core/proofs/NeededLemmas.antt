@@ -1,6 +1,5 @@
 -- A report asks for no more matches than are needed.
 use Rattle.std.proofs.Common.{◌≡◌, ℕ, Bool, true, false, ◌&&◌, List, [], ◌∷◌, ◌++◌, Option, Some, None, if◌then◌else◌, refl, sym, ap, ◌∙◌}
-use Rattle.std.specs.List.{filter}
 use Rattle.grep_core.specs.declared.separator_state.SeparatorState.{SeparatorState}
 use Rattle.grep_core.specs.declared.separator_state.SeparatorState.TheVariants.{LastPrinted}
 use Rattle.grep_core.specs.declared.role.Role.{Role}
@@ -9,9 +8,8 @@ use Rattle.grep_core.specs.declared.output_options.Print.{Print}
 use Rattle.grep_core.specs.declared.output_options.Print.TheVariants.{Lines, Matches, Count, NameIfAny, NameIfNone, Nothing}
 use Rattle.grep_core.specs.declared.output_options.OutputOptions.{OutputOptions}
 use Rattle.grep_core.specs.Lines.{TextLine, text_lines}
-use Rattle.grep_core.specs.Printing.{fields, has_marks, marked_from, printed_line, printed_matches, tab}
-use Rattle.grep_core.specs.Report.{LineMatcher, after_hidden, is_some_text, parting, print_lines, report, report_as, roles_of, selected}
-use Rattle.grep_core.specs.Report.{reported_spans}
+use Rattle.grep_core.specs.Printing.{has_marks, printed_line, printed_matches, printed_with, shown_matches, shows_matches}
+use Rattle.grep_core.specs.Report.{LineMatcher, after_hidden, parting, print_lines, report, report_as, roles_of, selected}
 use Rattle.grep_core.specs.Reporting.{with_needed_spans, needs_of, needs_spans}
 
 print_alike : {X : Type 0} (w : OutputOptions) (one two : Role → X → List ℕ) → ((r : Role) (x : X) → one r x ≡ two r x) →
@@ -27,27 +25,24 @@ print_alike w one two same b (Beside ∷ rs) (x ∷ xs) =
     ap (λ t. parting w b ++ (t ++ print_lines w one LastPrinted rs xs)) (same Beside x)
     ∙ ap (λ t. parting w b ++ (two Beside x ++ t)) (print_alike w one two same LastPrinted rs xs)
 
+-- no match is shown where none counts
+none_shown : (w : OutputOptions) (role : Role) (found : List (ℕ × ℕ)) → shows_matches w ≡ false → shown_matches w role found ≡ []
+none_shown w role found hides = ap (λ b. if b && has_marks w role then found else []) hides
+
 module _ (w : OutputOptions) (f : LineMatcher) (name : Option (List ℕ)) where
-  same_spans : needs_spans w ≡ true → (line : TextLine) → reported_spans (with_needed_spans w f) line ≡ reported_spans f line
-  same_spans needs line = ap (λ b. filter is_some_text (if b then f.spans line.content else [])) needs
+  same_spans : needs_spans w ≡ true → (line : TextLine) → (with_needed_spans w f).spans line.content ≡ f.spans line.content
+  same_spans needs line = ap (λ b. if b then f.spans line.content else []) needs
 
-  unmarked : w.color ≡ false → (role : Role) (line : TextLine) (found : List (ℕ × ℕ)) →
-      printed_line w name role line found
-      ≡ fields w name role line.number line.place ++ (tab w name line.content.bytes ++ (line.content.bytes ++ 10 ∷ []))
-  unmarked plain role line found =
-      ap (λ b. fields w name role line.number line.place
-      ++ (tab w name line.content.bytes
-      ++ ((if b && has_marks w role then marked_from line.content.bytes 0 found else line.content.bytes) ++ 10 ∷ []))) plain
-
-  same_line : (color : Bool) → w.color ≡ color → needs_spans w ≡ w.color → (role : Role) (line : TextLine) →
-      printed_line w name role line (reported_spans (with_needed_spans w f) line) ≡ printed_line w name role line (reported_spans f line)
+  same_line : (shows : Bool) → shows_matches w ≡ shows → needs_spans w ≡ shows_matches w → (role : Role) (line : TextLine) →
+      printed_line w name role line ((with_needed_spans w f).spans line.content) ≡ printed_line w name role line (f.spans line.content)
   same_line true is needs role line = ap (printed_line w name role line) (same_spans (needs ∙ is) line)
-  same_line false is needs role line = unmarked is role line (reported_spans (with_needed_spans w f) line)
-      ∙ sym (unmarked is role line (reported_spans f line))
+  same_line false is needs role line =
+      ap (printed_with w name role line)
+      (none_shown w role ((with_needed_spans w f).spans line.content) is ∙ sym (none_shown w role (f.spans line.content) is))
 
   same_matches : needs_spans w ≡ true → (role : Role) (line : TextLine) →
-      printed_matches w name role line (reported_spans (with_needed_spans w f) line) ≡
-      printed_matches w name role line (reported_spans f line)
+      printed_matches w name role line ((with_needed_spans w f).spans line.content) ≡
+      printed_matches w name role line (f.spans line.content)
   same_matches needs role line = ap (printed_matches w name role line) (same_spans needs line)
 
 same_report : (p : Print) (w : OutputOptions) (f : LineMatcher) (name : List ℕ) (with_name : Bool) (known : SeparatorState) (lines : List
@@ -56,16 +51,15 @@ same_report : (p : Print) (w : OutputOptions) (f : LineMatcher) (name : List ℕ
     report_as p w (with_needed_spans w f) name with_name known lines (selected w f lines)
     ≡ report_as p w f name with_name known lines (selected w f lines)
 same_report Lines w f name with_name known lines is =
-    print_alike w (λ role line. printed_line w (if with_name then Some name else None) role line (reported_spans (with_needed_spans w f)
-    line))
-    (λ role line. printed_line w (if with_name then Some name else None) role line (reported_spans f line))
-    (same_line w f (if with_name then Some name else None) w.color refl (ap (λ p. needs_of p w.color) is)) known
+    print_alike w (λ role line. printed_line w (if with_name then Some name else None) role line ((with_needed_spans w f).spans line.content))
+    (λ role line. printed_line w (if with_name then Some name else None) role line (f.spans line.content))
+    (same_line w f (if with_name then Some name else None) (shows_matches w) refl (ap (λ p. needs_of p (shows_matches w)) is)) known
     (roles_of w (selected w f lines)) lines
 same_report Matches w f name with_name known lines is =
     print_alike w (λ role line. printed_matches w (if with_name then Some name else None) role line
-    (reported_spans (with_needed_spans w f) line))
-    (λ role line. printed_matches w (if with_name then Some name else None) role line (reported_spans f line))
-    (same_matches w f (if with_name then Some name else None) (ap (λ p. needs_of p w.color) is)) known
+    ((with_needed_spans w f).spans line.content))
+    (λ role line. printed_matches w (if with_name then Some name else None) role line (f.spans line.content))
+    (same_matches w f (if with_name then Some name else None) (ap (λ p. needs_of p (shows_matches w)) is)) known
     (roles_of w (selected w f lines)) lines
 same_report Count w f name with_name known lines is = refl
 same_report NameIfAny w f name with_name known lines is = refl

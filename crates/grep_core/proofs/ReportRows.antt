@@ -45,18 +45,22 @@ plain = record {
   invert = false;
   print = Lines;
   numbers = false;
+  columns = false;
+  each_match = false;
   offsets = false;
   context = None;
   most = None;
   color = false;
   zero_names = false;
   initial_tab = false;
+  trim = false;
+  most_bytes = None;
   width = 0;
   groups = Hyphens;
 }
 
 abbrev beside : ℕ → ℕ → Option Context
-beside before after = Some (record { before = before; after = after })
+beside before after = Some (record { before = before; after = after; first = 0 })
 
 whole_lines : report plain letters (codes "t") false NonePrinted text ≡ line (codes "a1") (line (codes "a2 a3") [])
 whole_lines = refl
@@ -162,6 +166,50 @@ named = refl
 
 not_named : report (record plain { print = NameIfNone }) letters (codes "t") false NonePrinted text ≡ []
 not_named = refl
+
+-- ---- what ripgrep 13 prints
+-- --column
+columns_of_lines : report (record plain { numbers = true; columns = true }) letters (codes "t") false NonePrinted text
+    ≡ line (numbered 1 (58 ∷ numbered 1 (codes ":a1"))) (line (numbered 5 (58 ∷ numbered 1 (codes ":a2 a3"))) [])
+columns_of_lines = Prim.search (rules, common_steps)
+
+-- --column -A1: context lines have no columns
+columns_of_context : report (record plain { columns = true; context = beside 0 1 }) letters (codes "t") false NonePrinted (line (codes "za")
+    (line (codes "b") []))
+    ≡ line (numbered 2 (codes ":za")) (line (codes "b") [])
+columns_of_context = Prim.search (rules, common_steps)
+
+-- --column -o
+columns_of_matches : report (record plain { print = Matches; columns = true }) letters (codes "t") false NonePrinted text
+    ≡ line (numbered 1 (codes ":a")) (line (numbered 1 (codes ":a")) (line (numbered 4 (codes ":a")) []))
+columns_of_matches = Prim.search (rules, common_steps)
+
+-- --vimgrep
+a_line_for_each : report (record plain { numbers = true; columns = true; each_match = true }) letters (codes "t") true NonePrinted text
+    ≡ line (codes "t:" ++ numbered 1 (58 ∷ numbered 1 (codes ":a1")))
+    (line (codes "t:" ++ numbered 5 (58 ∷ numbered 1 (codes ":a2 a3")))
+    (line (codes "t:" ++ numbered 5 (58 ∷ numbered 4 (codes ":a2 a3"))) []))
+a_line_for_each = Prim.search (rules, common_steps)
+
+-- --trim
+without_blanks : report (record plain { trim = true }) letters (codes "t") false NonePrinted (line (9 ∷ codes " a b") (line (codes "a ") []))
+    ≡ line (codes "a b") (line (codes "a ") [])
+without_blanks = refl
+
+-- -M3, and with --column
+without_long_lines : report (record plain { most_bytes = Some 3 }) letters (codes "t") false NonePrinted text
+    ≡ line (codes "a1") (line (codes "[Omitted long matching line]") [])
+without_long_lines = refl
+
+counting_in_long_lines : report (record plain { most_bytes = Some 3; columns = true }) letters (codes "t") false NonePrinted text
+    ≡ line (numbered 1 (codes ":a1"))
+    (line (numbered 1 (codes ":[Omitted long line with " ++ numbered 2 (codes " matches]"))) [])
+counting_in_long_lines = Prim.search (rules, common_steps)
+
+-- --passthru
+all_lines : report (record plain { context = Some (record { before = 0; after = 9; first = 9 }) }) letters (codes "t") false NonePrinted text
+    ≡ line (codes "a1") (line (codes "b") (line (codes "c") (line (codes "d") (line (codes "a2 a3") (line [] (line (codes "b") []))))))
+all_lines = refl
 
 -- ---- lines that end with a carriage return and a line feed; what is expected is what ripgrep 13 prints with --crlf
 abbrev is_empty : List ℕ → Bool

@@ -2,7 +2,6 @@
 use Rattle.std.proofs.Common.{◌≡◌, ℕ, zero, suc, ◌+◌, Bool, true, false, List, [], ◌∷◌, map, length, All, Option, Some, None, if◌then◌else◌}
 use Rattle.std.proofs.Common.{refl, sym, ap, ◌∙◌, subst, arith}
 use Rattle.std.specs.Prelude.{is_some}
-use Rattle.std.specs.List.{filter}
 use Rattle.regex_hir.specs.Re.{Re}
 use Rattle.regex_hir.specs.Find.{Match, find, matches_from}
 use Rattle.hir_core.specs.Facts.{LoopsRead}
@@ -14,7 +13,6 @@ use Rattle.grep_core.specs.declared.patterns.PatternOptions.{PatternOptions}
 use Rattle.grep_core.specs.declared.output_options.OutputOptions.{OutputOptions}
 use Rattle.grep_core.specs.Lines.{SplitLine, searched, split_lines}
 use Rattle.grep_core.specs.Patterns.{finds_of, has_match_in, spans_in}
-use Rattle.grep_core.specs.Report.{is_some_text}
 use Rattle.grep_core.specs.Candidates.{HaveNoMatch}
 use Rattle.grep_core.specs.Searchers.{AreReported, IsMatchReported, IsResized, Sought, IsSearcherOf, SearchesFor, found_by}
 use Rattle.pattern_search.specs.Texts.{AreReadAs}
@@ -26,15 +24,15 @@ none_from search_from zero o none = refl
 none_from search_from (suc n) None none = refl
 none_from search_from (suc n) (Some m) none = absurd (grind (arith, none))
 
-no_spans : (b : Bool) (found : List (ℕ × ℕ)) → found ≡ [] → filter is_some_text (if b then found else []) ≡ []
-no_spans true found e = ap (filter is_some_text) e
+no_spans : (b : Bool) (found : List (ℕ × ℕ)) → found ≡ [] → (if b then found else []) ≡ []
+no_spans true found e = e
 no_spans false found e = refl
 
 -- a line without a match has no matches
 pub none_found : (w : OutputOptions) (how : PatternOptions) (res : List Re) (line : SplitLine) (has : Bool) →
     has ≡ (finds_of how res).has_match line →
     has ≡ false →
-    filter is_some_text ((with_needed_spans w (finds_of how res)).spans line) ≡ []
+    (with_needed_spans w (finds_of how res)).spans line ≡ []
 none_found w how res line has reported none =
     let bytes : List ℕ = searched how.crlf line in
     no_spans (needs_spans w) (spans_in how res bytes)
@@ -43,8 +41,8 @@ none_found w how res line has reported none =
 
 -- if matches don't count there are none
 pub none_needed : (w : OutputOptions) (how : PatternOptions) (res : List Re) (line : SplitLine) → needs_spans w ≡ false →
-    filter is_some_text ((with_needed_spans w (finds_of how res)).spans line) ≡ []
-none_needed w how res line none = ap (λ b. filter is_some_text (if b then (finds_of how res).spans line else [])) none
+    (with_needed_spans w (finds_of how res)).spans line ≡ []
+none_needed w how res line none = ap (λ b. (if b then (finds_of how res).spans line else [])) none
 
 -- what a finder knows of its searcher
 abbrev pub IsOwn : PatternOptions → List (List ℕ) → Bool → Pair → Type 0
@@ -66,10 +64,10 @@ own_resized how texts spans p q bytes resized own = (
 -- and if they count these are all
 pub all_needed : (w : OutputOptions) (how : PatternOptions) (res : List Re) (line : SplitLine) (found : List (ℕ × ℕ)) →
     needs_spans w ≡ true →
-    found ≡ filter is_some_text ((finds_of how res).spans line) →
-    found ≡ filter is_some_text ((with_needed_spans w (finds_of how res)).spans line)
+    found ≡ (finds_of how res).spans line →
+    found ≡ (with_needed_spans w (finds_of how res)).spans line
 all_needed w how res line found needs reported =
-    reported ∙ sym (ap (λ b. filter is_some_text (if b then (finds_of how res).spans line else [])) needs)
+    reported ∙ sym (ap (λ b. (if b then (finds_of how res).spans line else [])) needs)
 
 -- a finder that seeks the same
 abbrev pub moved_by : {p q : Sought} {spans : Bool} → q ≡ p → SearchesFor p spans → SearchesFor q spans
@@ -89,7 +87,7 @@ progress_by s spans by line reported match =
     subst (λ (h : PatternOptions). IsMatchReported h s.texts line reported) (sym by.same) match by.patterns by.are_read
 
 pub spans_by : (s : Sought) (spans : Bool) (by : SearchesFor s spans) (line : List ℕ) (reported : List (ℕ × ℕ)) →
-    AreReported s.how s.texts line reported → reported ≡ filter is_some_text (spans_in by.how by.patterns line)
+    AreReported s.how s.texts line reported → reported ≡ spans_in by.how by.patterns line
 spans_by s spans by line reported all =
     subst (λ (h : PatternOptions). AreReported h s.texts line reported) (sym by.same) all by.patterns by.are_read
 

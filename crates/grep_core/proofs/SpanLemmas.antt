@@ -2,7 +2,6 @@
 use Rattle.std.proofs.Common.{◌≡◌, ℕ, zero, suc, ◌+◌, ◌-◌, ◌<◌, ◌==◌, Bool, true, false, List, [], ◌∷◌, ◌++◌, All, length, map}
 use Rattle.std.proofs.Common.{Option, Some, None, option_map, if◌then◌else◌, refl, sym, ap, ap₂, ◌∙◌, arith, append_assoc}
 use Rattle.std.proofs.Common.{append-nil}
-use Rattle.std.specs.List.{filter}
 use Rattle.std.specs.Prelude.{is_some}
 use Rattle.regex_hir.specs.Re.{Re, accept, attempt}
 use Rattle.regex_hir.specs.Find.{Match, first_from, find, find_after, matches_from}
@@ -11,7 +10,6 @@ use Rattle.regex_syntax.specs.Captures.{SameCaptures}
 use Rattle.regex_syntax.proofs.CapturesLemmas.{find_alike, spans}
 use Rattle.grep_core.specs.Fallbacks.{found_at, next_after, spans_following}
 use Rattle.pattern_search.specs.Searches.{span_of_match}
-use Rattle.grep_core.specs.Report.{is_some_text}
 
 -- ---- patterns whose matches have the same captures
 by_captures : (o : Option Match) → option_map span_of_match o ≡ option_map (λ (s : ℕ × ℕ × (ℕ → Option ℕ)). (s.0, s.1)) (option_map spans o)
@@ -88,46 +86,35 @@ same_spans f g same (suc n) (Some s) =
     (same_spans f g same n (next_after f s.1)
     ∙ ap₂ (λ x y. spans_following g n (if is_some_and x (λ p. p.1 == s.1) then y else x)) (same s.1) (same (s.1 + 1)))
 
--- one more span of those that aren't empty
-one_of : (s : ℕ × ℕ) (xs : List (ℕ × ℕ)) → filter is_some_text (s ∷ xs) ≡ filter is_some_text (s ∷ []) ++ filter is_some_text xs
-one_of s xs = by (is_some_text s)
-  where
-    by : (b : Bool) → (if b then s ∷ filter is_some_text xs else filter is_some_text xs) ≡ (if b then s ∷ [] else [])
-        ++ filter is_some_text xs
-    by true = refl
-    by false = refl
-
 one_span : (at : ℕ → Option (ℕ × ℕ)) (n m : ℕ) (s : ℕ × ℕ) → n ≡ suc m →
-    filter is_some_text (spans_following at n (Some s)) ≡ filter is_some_text (s ∷ [])
-    ++ filter is_some_text (spans_following at m (next_after at s.1))
-one_span at n m s is = ap (λ k. filter is_some_text (spans_following at k (Some s))) is ∙
-    one_of s (spans_following at m (next_after at s.1))
+    spans_following at n (Some s) ≡ s ∷ spans_following at m (next_after at s.1)
+one_span at n m s is = ap (λ k. spans_following at k (Some s)) is
 
-no_span : (at : ℕ → Option (ℕ × ℕ)) (n : ℕ) → filter is_some_text (spans_following at n None) ≡ []
+no_span : (at : ℕ → Option (ℕ × ℕ)) (n : ℕ) → spans_following at n None ≡ []
 no_span at zero = refl
 no_span at (suc n) = refl
 
+-- one more span
 pub one_more_span : (at : ℕ → Option (ℕ × ℕ)) (all before after : List (ℕ × ℕ)) (most step : ℕ) (o next : Option (ℕ × ℕ)) (s : ℕ × ℕ) →
     step < most → o ≡ Some s →
-    next ≡ next_after at s.1 → after ≡ before ++ filter is_some_text (s ∷ []) →
-    all ≡ before ++ filter is_some_text (spans_following at (most - step) o) →
-    all ≡ after ++ filter is_some_text (spans_following at (most - (step + 1)) next)
+    next ≡ next_after at s.1 → after ≡ before ++ s ∷ [] →
+    all ≡ before ++ spans_following at (most - step) o →
+    all ≡ after ++ spans_following at (most - (step + 1)) next
 one_more_span at all before after most step o next s below some is pushed so_far =
     let one : most - step ≡ suc (most - (step + 1)) = omega (arith, below) in
-    let rest = filter is_some_text (spans_following at (most - (step + 1)) (next_after at s.1)) in
+    let rest = spans_following at (most - (step + 1)) (next_after at s.1) in
     so_far
-    ∙ ap (λ p. before ++ filter is_some_text (spans_following at (most - step) p)) some
+    ∙ ap (λ p. before ++ spans_following at (most - step) p) some
     ∙ ap (λ l. before ++ l) (one_span at (most - step) (most - (step + 1)) s one)
-    ∙ sym (append_assoc before (filter is_some_text (s ∷ [])) rest)
-    ∙ ap₂ (λ x y. x ++ filter is_some_text (spans_following at (most - (step + 1)) y)) (sym pushed) (sym is)
+    ∙ sym (append_assoc before (s ∷ []) rest)
+    ∙ ap₂ (λ x y. x ++ spans_following at (most - (step + 1)) y) (sym pushed) (sym is)
 
 pub all_found : (at : ℕ → Option (ℕ × ℕ)) (all reported : List (ℕ × ℕ)) (n : ℕ) (o : Option (ℕ × ℕ)) → o ≡ None →
-    all ≡ reported ++ filter is_some_text (spans_following at n o) → reported ≡ all
+    all ≡ reported ++ spans_following at n o → reported ≡ all
 all_found at all reported n o none so_far =
-    sym (so_far ∙ ap (λ p. reported ++ filter is_some_text (spans_following at n p)) none ∙ ap (λ l. reported ++ l) (no_span at n) ∙
-    append-nil reported)
+    sym (so_far ∙ ap (λ p. reported ++ spans_following at n p) none ∙ ap (λ l. reported ++ l) (no_span at n) ∙ append-nil reported)
 
 pub all_counted : (at : ℕ → Option (ℕ × ℕ)) (all reported : List (ℕ × ℕ)) (n : ℕ) (o : Option (ℕ × ℕ)) → n ≡ 0 →
-    all ≡ reported ++ filter is_some_text (spans_following at n o) → reported ≡ all
+    all ≡ reported ++ spans_following at n o → reported ≡ all
 all_counted at all reported n o none so_far =
-    sym (so_far ∙ ap (λ m. reported ++ filter is_some_text (spans_following at m o)) none ∙ append-nil reported)
+    sym (so_far ∙ ap (λ m. reported ++ spans_following at m o) none ∙ append-nil reported)

@@ -12,8 +12,8 @@ use Rattle.grep_core.specs.declared.output_options.Print.TheVariants.{Lines, Mat
 use Rattle.grep_core.specs.declared.output_options.OutputOptions.{OutputOptions}
 use Rattle.grep_core.specs.ContextPrinting.{Item, item, still, print_as, print_item, waiting_item}
 use Rattle.grep_core.specs.Lines.{TextLine}
-use Rattle.grep_core.specs.Report.{LineMatcher, before_of, after_of, roles_of, parting, after_hidden, print_lines, count_line, name_line}
-use Rattle.grep_core.specs.Report.{report_as, selected, reported_spans, is_wanted}
+use Rattle.grep_core.specs.Report.{LineMatcher, before_of, after_of, first_of, roles_of, parting, after_hidden, print_lines, count_line, name_line}
+use Rattle.grep_core.specs.Report.{report_as, selected, is_wanted}
 use Rattle.grep_core.specs.Selecting.{limited, count_selected, any, roles, roles_from}
 use Rattle.grep_core.specs.Reporting.{shown, reported_item, prints_lines, reported_lines, left_of, may_select, flags_after}
 
@@ -39,7 +39,7 @@ none_before n = omega arith
 -- nothing is printed of the lines but this
 abbrev Starts : OutputOptions → Option (List ℕ) → SeparatorState → ContextPrinter → Type 0
 Starts w name known c = (flags : List Bool) (items : List Item) →
-    still w name c flags items ≡ print_lines w (print_item w name) known (roles (before_of w.context) (after_of w.context) flags) items
+    still w name c flags items ≡ print_lines w (print_item w name) known (roles (before_of w.context) (after_of w.context) (first_of w.context) flags) items
 
 starts_lines : (p : Print) (w : OutputOptions) (f : LineMatcher) (name : Option (List ℕ)) (known : SeparatorState) (c : ContextPrinter) →
     Starts w name known c →
@@ -125,7 +125,7 @@ pub line_told : (p : Print) (w : OutputOptions) (f : LineMatcher) (name : List �
     (sel has : Bool)
     (line : TextLine)
     (found : List (ℕ × ℕ)) (out new : List ℕ) (lines : List TextLine) → sel ≡ selects w n has → has ≡ f.has_match line.content →
-    found ≡ reported_spans f line →
+    found ≡ f.spans line.content →
     m ≡ n + (if sel then 1 else 0) →
     ((flags : List Bool) (items : List Item) →
     out ++ reported_lines p w name with_name c n (sel ∷ flags) (item line found ∷ items) ≡

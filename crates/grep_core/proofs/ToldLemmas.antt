@@ -20,10 +20,8 @@ use Rattle.grep_core.specs.Bounded.{line_pattern}
 use Rattle.grep_core.specs.declared.patterns.PatternOptions.{PatternOptions}
 use Rattle.grep_core.proofs.BoundedTreeLemmas.{ends_of, spans_of}
 use Rattle.grep_core.proofs.WholePatternLemmas.{find_all_same, find_same, whole_is_each, whole_pattern}
-use Rattle.std.specs.List.{filter}
 use Rattle.hir_core.specs.Facts.{LoopsRead}
 use Rattle.pattern_search.specs.Searches.{span_of_found, span_of_match}
-use Rattle.grep_core.specs.Report.{is_some_text}
 use Rattle.grep_core.specs.Searchers.{IsSearcherOf, IsMatchReported, AreReported, sized_settings}
 
 -- any line of bytes is searched, whatever the trees
@@ -51,13 +49,12 @@ pub all_told : (how : PatternOptions) (texts : List (List ℕ)) (p : Pair) (line
     ((res : List Re) (xs : List Tree) (k : Option ℕ) → AreSameEnds res xs → AreSameSpans res xs → IsBuilt xs (sized_settings k) p →
     AnswersAsRead res xs (sized_settings k) p) →
     (it : IsSearcherOf how texts p) → LoopsRead it.tree → All (λ b. b < 256) line → IsWholeList p (whole_search line 0) fs →
-    reported ≡ filter is_some_text (map span_of_found fs) → AreReported how texts line reported
+    reported ≡ map span_of_found fs → AreReported how texts line reported
 all_told how texts p line fs reported law it loops bytes l spans res read =
     let answers = law (whole_pattern how res ∷ []) (it.tree ∷ []) it.capacity (ends_of how texts it.tree it.mean res read)
     (spans_of how texts it.tree it.mean res read) it.built in
     let all = All-cons LoopsRead it.tree [] loops (All-nil LoopsRead) in
     spans
-    ∙ ap (filter is_some_text)
-    (sym (answers.all all line (is_search (it.tree ∷ []) line bytes) fs l.old l.new l.regex l.taken l.over)
+    ∙ sym (answers.all all line (is_search (it.tree ∷ []) line bytes) fs l.old l.new l.regex l.taken l.over)
     ∙ ap (map span_of_match)
-    (find_all_same (alt_all (whole_pattern how res ∷ [])) (line_pattern how res) (whole_is_each how res) line bytes))
+    (find_all_same (alt_all (whole_pattern how res ∷ [])) (line_pattern how res) (whole_is_each how res) line bytes)

@@ -14,7 +14,7 @@ use Rattle.grep_core.specs.Selecting.{roles_from}
 use Rattle.grep_core.specs.Printing.{printed_line, printed_matches, span_pair}
 use Rattle.grep_core.specs.Report.{before_of, after_of, parting, print_lines}
 
--- A line and its matches that aren't empty.
+-- A line and its matches.
 pub record Item : Type 0 where
   pub line : TextLine
   pub found : List (ℕ × ℕ)

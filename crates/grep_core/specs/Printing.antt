@@ -1,6 +1,6 @@
 -- How lines are printed, in the format of GNU grep.
-use Rattle.std.specs.Prelude.{ℕ, zero, suc, ◌+◌, ◌-◌, Bool, true, false, not, ◌&&◌, ◌||◌, nat_lt, List, [], ◌∷◌, ◌++◌, codes, decimal, slice_range, length}
-use Rattle.std.specs.Prelude.{Option, Some, None, is_some, replicate, if◌then◌else◌}
+use Rattle.std.specs.Prelude.{ℕ, zero, suc, ◌+◌, ◌-◌, ◌==◌, Bool, true, false, not, ◌&&◌, ◌||◌, nat_lt, List, [], ◌∷◌, ◌++◌, codes, decimal, drop, slice_range, length}
+use Rattle.std.specs.Prelude.{map, Option, Some, None, is_some, replicate, if◌then◌else◌}
 use Rattle.std.specs.List.{flat_map}
 use Rattle.grep_core.specs.declared.line.Line.{Line}
 use Rattle.grep_core.specs.declared.role.Role.{Role}
@@ -45,12 +45,21 @@ padded (suc n) text = replicate (suc n - length text) 32 ++ text
 abbrev pub number_field : OutputOptions → Role → ℕ → List ℕ
 number_field w role number = field w role (codes "32") (padded w.width (decimal number))
 
--- What is printed before a line, or before a match in it whose first byte is at this offset.
-abbrev pub fields : OutputOptions → Option (List ℕ) → Role → ℕ → ℕ → List ℕ
-fields w name role number place =
+-- The column of a match, counted in bytes from 1, if columns are asked for.
+abbrev pub column_of : OutputOptions → ℕ × ℕ → Option ℕ
+column_of w s = if w.columns then Some (s.0 + 1) else None
+
+abbrev pub column_field : OutputOptions → Role → Option ℕ → List ℕ
+column_field w role None = []
+column_field w role (Some column) = number_field w role column
+
+-- What is printed before a line, or before a match in it, whose first byte is at this offset. A match that is shown has a column.
+abbrev pub fields : OutputOptions → Option (List ℕ) → Role → ℕ → Option ℕ → ℕ → List ℕ
+fields w name role number column place =
     name_field w role name
     ++ (if_asked w.numbers (number_field w role number)
-    ++ if_asked w.offsets (number_field w role place))
+    ++ (column_field w role column
+    ++ if_asked w.offsets (number_field w role place)))
 
 -- The tab between these fields and a text, if it is asked for. Without fields there is none, and before an empty text neither.
 abbrev pub tab : OutputOptions → Option (List ℕ) → List ℕ → List ℕ
@@ -64,34 +73,122 @@ text_line line = record { number = line.number; place = line.place; content = re
 abbrev pub span_pair : Span → ℕ × ℕ
 span_pair s = (s.start, s.end)
 
--- The bytes of a line from an offset on, with the spans after that offset marked.
+-- Whether a span isn't empty.
+abbrev pub is_some_text : ℕ × ℕ → Bool
+is_some_text s = nat_lt s.0 s.1
+
+-- The bytes of a line from an offset on, with the spans after that offset marked. Empty ones aren't.
 abbrev pub marked_from : List ℕ → ℕ → List (ℕ × ℕ) → List ℕ
 marked_from line at [] = slice_range line at (length line)
 marked_from line at (s ∷ spans) = slice_range line at s.0
-    ++ (coloured true (codes "01;31") (slice_range line s.0 s.1) ++ marked_from line s.1 spans)
+    ++ (coloured (is_some_text s) (codes "01;31") (slice_range line s.0 s.1) ++ marked_from line s.1 spans)
 
--- Matches are marked in lines that can have some: in selected lines, or with `invert` in context lines.
+-- Matches are shown in lines that can have some: in selected lines, or with `invert` in context lines.
 abbrev pub has_marks : OutputOptions → Role → Bool
 has_marks w Selected = not w.invert
 has_marks w _ = w.invert
 
--- The bytes of a line that has these matches, none of which is empty.
-abbrev pub line_bytes : OutputOptions → List (ℕ × ℕ) → Role → List ℕ → List ℕ
-line_bytes w found role line = if w.color && has_marks w role then marked_from line 0 found else line
+-- Whether the output for a line depends on the matches in it.
+abbrev pub shows_matches : OutputOptions → Bool
+shows_matches w = w.color || w.columns || w.each_match
 
+-- The matches that are shown in a line of this role that has these.
+abbrev pub shown_matches : OutputOptions → Role → List (ℕ × ℕ) → List (ℕ × ℕ)
+shown_matches w role found = if shows_matches w && has_marks w role then found else []
+
+-- ASCII white space: the bytes from 9 to 13 and the space.
+abbrev pub is_blank : ℕ → Bool
+is_blank c = nat_lt 8 c && nat_lt c 14 || c == 32
+
+-- How much white space a text begins with.
+abbrev pub blanks : List ℕ → ℕ
+blanks [] = 0
+blanks (c ∷ text) = if is_blank c then suc (blanks text) else 0
+
+-- How many bytes are left out at the beginning of a text, if that is asked for.
+abbrev pub left_out : OutputOptions → List ℕ → ℕ
+left_out w text = if w.trim then blanks text else 0
+
+abbrev pub trimmed : OutputOptions → List ℕ → List ℕ
+trimmed w text = drop (left_out w text) text
+
+-- A span of a text of which so many bytes are left out at its beginning.
+abbrev pub moved : ℕ → ℕ × ℕ → ℕ × ℕ
+moved n s = (s.0 - n, s.1 - n)
+
+-- The bytes of a line in which these matches are shown.
+abbrev pub line_bytes : OutputOptions → List (ℕ × ℕ) → List ℕ → List ℕ
+line_bytes w found line =
+    if w.color then marked_from (trimmed w line) 0 (map (moved (left_out w line)) found) else trimmed w line
+
+-- Whether a text has more bytes than may be printed.
+abbrev pub exceeds : Option ℕ → ℕ → Bool
+exceeds None n = false
+exceeds (Some most) n = nat_lt most n
+
+-- A line counts with its line feed.
+abbrev pub is_long : OutputOptions → TextLine → Bool
+is_long w line = exceeds w.most_bytes (length line.content.bytes + (if line.content.is_ended then 1 else 0))
+
+-- What is printed instead of a line that is too long, if no match is shown in it.
+abbrev pub omitted_line : Role → List ℕ
+omitted_line Selected = codes "[Omitted long matching line]"
+omitted_line _ = codes "[Omitted long context line]"
+
+-- What is printed instead of a line that is too long, with so many matches that are shown in it.
+abbrev pub omission : Role → ℕ → List ℕ
+omission role count =
+    if nat_lt 0 count then codes "[Omitted long line with " ++ (decimal count ++ codes " matches]") else omitted_line role
+
+abbrev pub omitted_text : OutputOptions → Option (List ℕ) → Role → ℕ → List ℕ
+omitted_text w name role count = tab w name (omission role count) ++ (omission role count ++ 10 ∷ [])
+
+-- A line after its fields, with these matches marked in it. It has so many.
+abbrev pub line_text : OutputOptions → Option (List ℕ) → Role → TextLine → List (ℕ × ℕ) → ℕ → List ℕ
+line_text w name role line marks count =
+    if is_long w line then omitted_text w name role count
+    else tab w name (trimmed w line.content.bytes) ++ (line_bytes w marks line.content.bytes ++ 10 ∷ [])
+
+-- The column of the first match.
+abbrev pub first_column : OutputOptions → List (ℕ × ℕ) → Option ℕ
+first_column w [] = None
+first_column w (s ∷ spans) = column_of w s
+
+-- A line that is printed once, with these matches shown in it.
+abbrev pub printed_once : OutputOptions → Option (List ℕ) → Role → TextLine → List (ℕ × ℕ) → List ℕ
+printed_once w name role line shown =
+    fields w name role line.number (first_column w shown) line.place ++ line_text w name role line shown (length shown)
+
+-- A line that is printed for one of its matches. It has so many.
+abbrev pub printed_for : OutputOptions → Option (List ℕ) → Role → TextLine → ℕ → ℕ × ℕ → List ℕ
+printed_for w name role line count s =
+    fields w name role line.number (column_of w s) (line.place + s.0) ++ line_text w name role line (s ∷ []) count
+
+abbrev pub printed_with : OutputOptions → Option (List ℕ) → Role → TextLine → List (ℕ × ℕ) → List ℕ
+printed_with w name role line shown =
+    if w.each_match && nat_lt 0 (length shown) then flat_map (printed_for w name role line (length shown)) shown
+    else printed_once w name role line shown
+
+-- A line that has these matches.
 abbrev pub printed_line : OutputOptions → Option (List ℕ) → Role → TextLine → List (ℕ × ℕ) → List ℕ
-printed_line w name role line found =
-    fields w name role line.number line.place
-    ++ (tab w name line.content.bytes ++ (line_bytes w found role line.content.bytes ++ 10 ∷ []))
+printed_line w name role line found = printed_with w name role line (shown_matches w role found)
 
--- A match in a line of this role, printed as a line of its own.
+-- The bytes of a match after its fields.
+abbrev pub match_text : OutputOptions → Option (List ℕ) → Role → List ℕ → List ℕ
+match_text w name role text =
+    if exceeds w.most_bytes (length text) then omitted_text w name role 0
+    else tab w name (trimmed w text)
+    ++ (coloured (w.color && nat_lt 0 (length (trimmed w text))) (codes "01;31") (trimmed w text) ++ 10 ∷ [])
+
+-- A match in a line of this role, printed as a line of its own, unless it is empty.
 abbrev pub printed_match : OutputOptions → Option (List ℕ) → Role → TextLine → ℕ × ℕ → List ℕ
 printed_match w name role line s =
-    fields w name role line.number (line.place + s.0)
-    ++ (tab w name (slice_range line.content.bytes s.0 s.1)
-    ++ (coloured w.color (codes "01;31") (slice_range line.content.bytes s.0 s.1) ++ 10 ∷ []))
+    if is_some_text s
+    then fields w name role line.number (column_of w s) (line.place + s.0)
+    ++ match_text w name role (slice_range line.content.bytes s.0 s.1)
+    else []
 
--- The matches of a line, printed if they would be marked in a line of this role.
+-- The matches of a line, printed if they would be shown in a line of this role.
 abbrev pub printed_matches : OutputOptions → Option (List ℕ) → Role → TextLine → List (ℕ × ℕ) → List ℕ
 printed_matches w name role line found = if has_marks w role then flat_map (printed_match w name role line) found else []
 

@@ -1,6 +1,5 @@
 -- What is printed for an input, for any choice of wanted lines and any spans as the matches of a line.
 use Rattle.std.specs.Prelude.{ℕ, Bool, not, nat_lt, List, [], ◌∷◌, ◌++◌, map, decimal, codes, Option, Some, None, is_some, if◌then◌else◌}
-use Rattle.std.specs.List.{filter}
 use Rattle.grep_core.specs.declared.output_options.Context.{Context}
 use Rattle.grep_core.specs.declared.output_options.Print.TheVariants.{Lines, Matches, Count, NameIfAny, NameIfNone, Nothing}
 use Rattle.grep_core.specs.declared.output_options.Print.{Print}
@@ -18,13 +17,6 @@ pub record LineMatcher : Type 0 where
   pub has_match : SplitLine → Bool
   pub spans : SplitLine → List (ℕ × ℕ)
 
--- Whether a span isn't empty.
-abbrev pub is_some_text : ℕ × ℕ → Bool
-is_some_text s = nat_lt s.0 s.1
-
-abbrev pub reported_spans : LineMatcher → TextLine → List (ℕ × ℕ)
-reported_spans f line = filter is_some_text (f.spans line.content)
-
 abbrev pub is_wanted : OutputOptions → LineMatcher → TextLine → Bool
 is_wanted w f line = if w.invert then not (f.has_match line.content) else f.has_match line.content
 
@@ -32,7 +24,7 @@ is_wanted w f line = if w.invert then not (f.has_match line.content) else f.has_
 abbrev pub selected : OutputOptions → LineMatcher → List TextLine → List Bool
 selected w f lines = limited w.most (map (is_wanted w f) lines)
 
--- How many context lines are printed before each selected line (`before_of`) and after it (`after_of`).
+-- How many context lines are printed before each selected line (`before_of`), after it (`after_of`) and at the beginning (`first_of`).
 abbrev pub before_of : Option Context → ℕ
 before_of None = 0
 before_of (Some c) = c.before
@@ -41,8 +33,12 @@ abbrev pub after_of : Option Context → ℕ
 after_of None = 0
 after_of (Some c) = c.after
 
+abbrev pub first_of : Option Context → ℕ
+first_of None = 0
+first_of (Some c) = c.first
+
 abbrev pub roles_of : OutputOptions → List Bool → List Role
-roles_of w wanted = roles (before_of w.context) (after_of w.context) wanted
+roles_of w wanted = roles (before_of w.context) (after_of w.context) (first_of w.context) wanted
 
 -- What is known after a line that isn't printed.
 abbrev pub after_hidden : SeparatorState → SeparatorState
@@ -76,10 +72,10 @@ name_line w name = name_before w name (10 ∷ [])
 -- input is what is known of the lines of earlier inputs.
 abbrev pub report_as : Print → OutputOptions → LineMatcher → List ℕ → Bool → SeparatorState → List TextLine → List Bool → List ℕ
 report_as Lines w f name with_name known lines wanted =
-    print_lines w (λ role line. printed_line w (if with_name then Some name else None) role line (reported_spans f line)) known
+    print_lines w (λ role line. printed_line w (if with_name then Some name else None) role line (f.spans line.content)) known
     (roles_of w wanted) lines
 report_as Matches w f name with_name known lines wanted =
-    print_lines w (λ role line. printed_matches w (if with_name then Some name else None) role line (reported_spans f line)) known
+    print_lines w (λ role line. printed_matches w (if with_name then Some name else None) role line (f.spans line.content)) known
     (roles_of w wanted) lines
 report_as Count w f name with_name known lines wanted = count_line w (if with_name then Some name else None) (count_selected wanted)
 report_as NameIfAny w f name with_name known lines wanted = if nat_lt 0 (count_selected wanted) then name_line w name else []

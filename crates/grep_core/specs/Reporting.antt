@@ -7,16 +7,17 @@ use Rattle.grep_core.specs.declared.output_options.Print.TheVariants.{Lines, Mat
 use Rattle.grep_core.specs.declared.output_options.OutputOptions.{OutputOptions}
 use Rattle.grep_core.specs.ContextPrinting.{Item, item, still}
 use Rattle.grep_core.specs.Lines.{TextLine}
-use Rattle.grep_core.specs.Report.{LineMatcher, reported_spans, is_wanted, count_line, name_line}
+use Rattle.grep_core.specs.Printing.{shows_matches}
+use Rattle.grep_core.specs.Report.{LineMatcher, is_wanted, count_line, name_line}
 use Rattle.grep_core.specs.Selecting.{limited, count_selected}
 
 -- The name that is printed before lines, if any.
 abbrev pub shown : Bool → List ℕ → Option (List ℕ)
 shown with_name name = if with_name then Some name else None
 
--- A line with its matches that aren't empty.
+-- A line with its matches.
 abbrev pub reported_item : LineMatcher → TextLine → Item
-reported_item f line = item line (reported_spans f line)
+reported_item f line = item line (f.spans line.content)
 
 -- Whether the output consists of lines or of the matches in them.
 abbrev pub prints_lines : Print → Bool
@@ -56,17 +57,17 @@ still_reported w f name with_name t lines = reported_lines w.print w name with_n
 abbrev pub count_in_all : OutputOptions → LineMatcher → Reporter → List TextLine → ℕ
 count_in_all w f t lines = t.count + count_selected (flags_after w f t.count lines)
 
--- Whether the output depends on the matches: it does if they are printed alone or marked in lines.
+-- Whether the output depends on the matches: it does if they are printed alone or shown in lines.
 abbrev pub needs_of : Print → Bool → Bool
-needs_of Lines color = color
-needs_of Matches color = true
-needs_of Count color = false
-needs_of NameIfAny color = false
-needs_of NameIfNone color = false
-needs_of Nothing color = false
+needs_of Lines shows = shows
+needs_of Matches shows = true
+needs_of Count shows = false
+needs_of NameIfAny shows = false
+needs_of NameIfNone shows = false
+needs_of Nothing shows = false
 
 abbrev pub needs_spans : OutputOptions → Bool
-needs_spans w = needs_of w.print w.color
+needs_spans w = needs_of w.print (shows_matches w)
 
 -- A matcher that agrees on which lines have a match, and reports spans only if the output depends on them.
 abbrev pub with_needed_spans : OutputOptions → LineMatcher → LineMatcher

@@ -1,6 +1,5 @@
 -- What a line searcher is built from, and what it reports about a line.
 use Rattle.std.specs.Prelude.{◌≡◌, ◌⊎◌, ℕ, Bool, true, false, List, [], ◌∷◌, Option, Some, Err}
-use Rattle.std.specs.List.{filter}
 use Rattle.regex_hir.specs.Re.{Re}
 use Rattle.hir_core.specs.Tree.{Tree}
 use Rattle.lazy_dfa.specs.declared.build_error.BuildError.TheVariants.{NoMemory}
@@ -18,7 +17,7 @@ use Rattle.grep_core.specs.Meant.{line_config}
 use Rattle.grep_core.specs.declared.patterns.PatternOptions.{PatternOptions}
 use Rattle.grep_core.specs.declared.searcher.SearcherError.{SearcherError}
 use Rattle.grep_core.specs.declared.searcher.SearcherError.TheVariants.{Text, EmptyLoop, Build}
-use Rattle.grep_core.specs.Report.{LineMatcher, is_some_text}
+use Rattle.grep_core.specs.Report.{LineMatcher}
 use Rattle.grep_core.specs.Patterns.{finds_of, has_match_in, spans_in}
 
 -- The settings for searching lines, which may be any bytes.
@@ -46,10 +45,9 @@ IsResized bytes p q =
 abbrev pub IsMatchReported : PatternOptions → List (List ℕ) → List ℕ → Bool → Type 0
 IsMatchReported how texts line reported = (res : List Re) → AreReadAs (line_config how) texts res → reported ≡ has_match_in how res line
 
--- The reported spans are the matches of the line that aren't empty, for the patterns as they are parsed.
+-- The reported spans are the matches of the line, for the patterns as they are parsed.
 abbrev pub AreReported : PatternOptions → List (List ℕ) → List ℕ → List (ℕ × ℕ) → Type 0
-AreReported how texts line reported = (res : List Re) → AreReadAs (line_config how) texts res →
-    reported ≡ filter is_some_text (spans_in how res line)
+AreReported how texts line reported = (res : List Re) → AreReadAs (line_config how) texts res → reported ≡ spans_in how res line
 
 -- Why a search of the line fails. Either memory ran out, or the error is that of a search by the regex from some offset of the line.
 abbrev pub IsLineError : Pair → List ℕ → MatchErrorKind → Type 0

@@ -30,5 +30,5 @@ roles_from before after (suc left) (false ∷ selected) = Beside ∷ roles_from 
 roles_from before after zero (false ∷ selected) = (if any (take before selected) then Beside else Hidden) ∷ roles_from before after zero
     selected
 
-abbrev pub roles : ℕ → ℕ → List Bool → List Role
-roles before after selected = roles_from before after 0 selected
+abbrev pub roles : ℕ → ℕ → ℕ → List Bool → List Role
+roles before after first selected = roles_from before after first selected

@@ -1,23 +1,22 @@
 -- Whole lines of which none has a match.
 use Rattle.std.specs.Prelude.{◌≡◌, ◌⊎◌, ℕ, true, false, List, [], ◌∷◌, ◌++◌, All, if◌then◌else◌}
-use Rattle.std.specs.List.{filter}
 use Rattle.grep_core.specs.declared.progress.Progress.{Progress}
 use Rattle.grep_core.specs.declared.progress.Task.{Task}
 use Rattle.grep_core.specs.declared.context_printer.ContextPrinter.{ContextPrinter}
 use Rattle.grep_core.specs.declared.output_options.OutputOptions.{OutputOptions}
 use Rattle.grep_core.specs.Blocks.{reported_bytes, counts_lines}
 use Rattle.grep_core.specs.Lines.{SplitLine, split_lines}
-use Rattle.grep_core.specs.Report.{LineMatcher, before_of, is_some_text}
+use Rattle.grep_core.specs.Report.{LineMatcher, before_of}
 use Rattle.grep_core.specs.Reporting.{prints_lines}
 
 -- Bytes that are whole lines: they are empty or end with a line feed.
 abbrev pub AreWhole : List ℕ → Type 0
 AreWhole text = (text ≡ []) ⊎ ((first : List ℕ) × (text ≡ first ++ 10 ∷ []))
 
--- A line has no match, and no span that isn't empty.
+-- A line has no match, and no span.
 pub record HasNoMatch (f : LineMatcher) (line : SplitLine) : Type 0 where
   pub no_match : f.has_match line ≡ false
-  pub no_text : filter is_some_text (f.spans line) ≡ []
+  pub no_text : f.spans line ≡ []
 
 -- At this point, a line without a match is neither selected nor owed as context to a selected one.
 pub record MaySkip (w : OutputOptions) (c : ContextPrinter) : Type 0 where

@@ -3,7 +3,7 @@ ghost use Rattle.std.specs.Prelude.{◌≡◌, ◌++◌, ◌∷◌, [], ℕ, Boo
 ghost use Rattle.grep_core.specs.ContextPrinting.{Item, Waits, still, item, queued, after_queue, print_item, waiting_item};
 ghost use Rattle.grep_core.specs.Printing.{span_pair, text_line};
 ghost use Rattle.grep_core.specs.declared.output_options.OutputOptions.{OutputOptions as TheOutputOptions};
-ghost use Rattle.grep_core.specs.Report.{parting, before_of, after_of, after_hidden, print_lines};
+ghost use Rattle.grep_core.specs.Report.{parting, before_of, after_of, first_of, after_hidden, print_lines};
 ghost use Rattle.grep_core.specs.Selecting.{roles};
 
 use crate::fault::Fault;
@@ -112,6 +112,16 @@ pub(crate) fn before_of(what: &OutputOptions<'_>) -> u64
 {
     match what.context {
         Some(context) => context.before,
+        None => 0,
+    }
+}
+
+/// How many lines at the beginning are printed as context.
+pub(crate) fn first_of(what: &OutputOptions<'_>) -> u64
+    ensures { result ≡ first_of what.now.context }
+{
+    match what.context {
+        Some(context) => context.first,
         None => 0,
     }
 }
@@ -241,16 +251,17 @@ fn wait(
 }
 
 impl ContextPrinter {
-    /// The state before the first line, where `known` describes the lines of earlier inputs.
-    pub(crate) fn new(alloc: Global, known: SeparatorState) -> ContextPrinter
-        ensures starts { (what : TheOutputOptions) → (name : Option (List ℕ)) → (flags : List Bool) → (items : List Item) →
-            still what name result flags items ≡ print_lines what (print_item what name) known
-            (roles (before_of what.context) (after_of what.context) flags) items }
+    /// The state before the first line, where `known` describes the lines of earlier inputs, and so many lines are printed as context
+    /// before the first selected one.
+    pub(crate) fn new(alloc: Global, first: u64, known: SeparatorState) -> ContextPrinter
+        ensures starts { (what : TheOutputOptions) → first ≡ first_of what.context → (name : Option (List ℕ)) → (flags : List Bool) →
+            (items : List Item) → still what name result flags items ≡ print_lines what (print_item what name) known
+            (roles (before_of what.context) (after_of what.context) (first_of what.context) flags) items }
         ensures waits { (what : TheOutputOptions) → Waits what result }
     {
         ContextPrinter {
             known,
-            left: 0,
+            left: first,
             waiting: VecDeque::new(alloc),
         }
     }

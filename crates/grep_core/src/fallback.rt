@@ -1,11 +1,9 @@
 //! Searches lines in which the automata give up by the toolchain's own engines, with one program for all patterns.
 ghost use Rattle.std.specs.Prelude.{◌≡◌, ◌≤◌, ◌∷◌, ◌++◌, ◌==◌, ℕ, List, [], IfOk, OnOk, length, map, option_map};
-ghost use Rattle.std.specs.List.{filter};
 ghost use Rattle.regex_hir.specs.Text.{is_some_and};
 ghost use Rattle.regex_meta.specs.Programs.{pattern_of};
 ghost use Rattle.grep_core.specs.Fallbacks.{AreTreesOfPatterns, IsProgramOf, IsTreeOfText, found_at, next_after};
 ghost use Rattle.grep_core.specs.Printing.{span_pair};
-ghost use Rattle.grep_core.specs.Report.{is_some_text};
 ghost use Rattle.grep_core.specs.Searchers.{AreReported, IsMatchReported};
 ghost use Rattle.grep_core.specs.declared.patterns.PatternOptions.{PatternOptions};
 
@@ -179,15 +177,13 @@ fn find_next(searcher: &mut Searcher<'_>, line: &[u8], end: usize) -> Option<Spa
 }
 
 fn push_some(found: &mut Vec<Span>, span: Span) -> Result<(), AllocError>
-    ensures { OnOk result (map span_pair found.new.items ≡ map span_pair found.old.items ++ filter is_some_text (span_pair span ∷ [])) }
+    ensures { OnOk result (map span_pair found.new.items ≡ map span_pair found.old.items ++ span_pair span ∷ []) }
 {
-    if span.start < span.end {
-        found.push(span)?;
-    }
+    found.push(span)?;
     Ok(())
 }
 
-/// The matches that aren't empty, from left to right.
+/// The matches, from left to right.
 pub(crate) fn all_matches(
     alloc: Global,
     searcher: &mut Searcher<'_>,
@@ -211,7 +207,7 @@ pub(crate) fn all_matches(
     Ok(found)
 }
 
-/// The matches that aren't empty, from left to right, by a searcher that is made for the line.
+/// The matches, from left to right, by a searcher that is made for the line.
 pub(crate) fn all_matches_anew(
     alloc: Global,
     program: &Program,

@@ -184,7 +184,7 @@ impl<'t> Finder<'t> {
         Ok(has)
     }
 
-    /// The matches of the line that aren't empty, by the program.
+    /// The matches of the line, by the program.
     fn matches_slowly(&mut self, alloc: Global, line: &[u8]) -> Result<Vec<Span>, Fault>
         ensures same { self.new ≡ self.old }
         ensures reported { IfOk result (λ found. AreReported self.old.how self.old.texts line.now (map span_pair found.items)) }
@@ -209,7 +209,7 @@ impl<'t> Finder<'t> {
         Ok(reported)
     }
 
-    /// The matches of the line that aren't empty, by the automata.
+    /// The matches of the line, by the automata.
     fn matches_quickly(&mut self, alloc: Global, line: &[u8]) -> Result<Vec<Span>, MatchError>
         ensures same { self.new ≡ self.old }
         ensures reported { self.old.spans ≡ true →
@@ -242,7 +242,7 @@ impl<'t> Finder<'t> {
         }
     }
 
-    /// The matches of the line that aren't empty, from left to right.
+    /// The matches of the line, from left to right.
     pub(crate) fn matches(&mut self, alloc: Global, line: &[u8]) -> Result<Vec<Span>, Fault>
         ensures same { self.new ≡ self.old }
         ensures reported { self.old.spans ≡ true →

@@ -1,19 +1,45 @@
 //! What is printed of a line: the line itself, or the matches in it.
-ghost use Rattle.std.specs.Prelude.{◌≡◌, ◌++◌, ◌+◌, OnOk, map, option_map};
+ghost use Rattle.std.specs.Prelude.{◌≡◌, ◌++◌, ◌+◌, OnOk, map, option_map, slice_range};
 ghost use Rattle.std.specs.List.{flat_map};
 ghost use Rattle.grep_core.specs.ContextPrinting.{item, print_item};
-ghost use Rattle.grep_core.specs.Printing.{printed_match, printed_matches, span_pair, text_line};
+ghost use Rattle.grep_core.specs.Printing.{column_of, fields, match_text, printed_match, printed_matches, span_pair, text_line};
 
 use crate::fault::Fault;
 use crate::line::Line;
 use crate::output_options::{OutputOptions, Print};
-use crate::printing::{has_marks, piece, push_fields, push_line, push_marked, push_tab};
+use crate::printing::{
+    column_of, exceeds, has_marks, piece, push_fields, push_line, push_marked, push_omission,
+    push_tab, trimmed,
+};
+use crate::progress::sum;
 use crate::role::Role;
 use search_types::Span;
 use std::alloc::{AllocError, Global};
 
-/// Appends a match whose first byte is at this offset, as a line of its own.
-fn push_match_at(
+/// Appends the bytes of a match after its fields.
+fn push_match_text(
+    alloc: Global,
+    out: &mut Vec<u8>,
+    what: &OutputOptions<'_>,
+    name: Option<&[u8]>,
+    role: Role,
+    text: &[u8],
+) -> Result<(), AllocError>
+    ensures { OnOk result (out.new.items ≡ out.old.items
+        ++ match_text what.now (option_map (λ n. n.now) name.entry) role text.now) }
+{
+    if exceeds(what.most_bytes, text.len() as u64) {
+        return push_omission(alloc, out, what, name, role, 0);
+    }
+    let text = trimmed(what, text);
+    push_tab(out, what, name, text)?;
+    push_marked(out, what.color && !text.is_empty(), b"01;31", text)?;
+    out.push(b'\n')?;
+    Ok(())
+}
+
+/// Appends a match with the fields before it.
+fn push_match(
     alloc: Global,
     out: &mut Vec<u8>,
     what: &OutputOptions<'_>,
@@ -21,22 +47,22 @@ fn push_match_at(
     role: Role,
     line: Line<'_>,
     span: Span,
-    place: u64,
-) -> Result<(), AllocError>
-    requires { place ≡ line.place + span.start }
+) -> Result<(), Fault>
     ensures { OnOk result (out.new.items ≡ out.old.items
-        ++ printed_match what.now (option_map (λ n. n.now) name.entry) role (text_line line.entry) (span_pair span)) }
+        ++ (fields what.now (option_map (λ n. n.now) name.entry) role line.entry.number (column_of what.now (span_pair span))
+        (line.entry.place + span.start)
+        ++ match_text what.now (option_map (λ n. n.now) name.entry) role (slice_range line.entry.bytes.now span.start span.end))) }
 {
-    push_fields(alloc, out, what, name, role, line.number, place)?;
+    let column = column_of(what, span)?;
+    let place = sum(line.place, span.start as u64)?;
+    push_fields(alloc, out, what, name, role, line.number, column, place)?;
     let text = piece(line.bytes, span.start, span.end);
-    push_tab(out, what, name, text)?;
-    push_marked(out, what.color, b"01;31", text)?;
-    out.push(b'\n')?;
+    push_match_text(alloc, out, what, name, role, text)?;
     Ok(())
 }
 
-/// Appends a match, as a line of its own.
-fn push_match(
+/// Appends a match as a line of its own, unless it is empty.
+fn push_some(
     alloc: Global,
     out: &mut Vec<u8>,
     what: &OutputOptions<'_>,
@@ -48,10 +74,9 @@ fn push_match(
     ensures { OnOk result (out.new.items ≡ out.old.items
         ++ printed_match what.now (option_map (λ n. n.now) name.entry) role (text_line line.entry) (span_pair span)) }
 {
-    let Some(place) = line.place.checked_add(span.start as u64) else {
-        return Err(Fault::TooLong);
-    };
-    push_match_at(alloc, out, what, name, role, line, span, place)?;
+    if span.start < span.end {
+        return push_match(alloc, out, what, name, role, line, span);
+    }
     Ok(())
 }
 
@@ -69,7 +94,7 @@ fn push_all(
         ++ flat_map (printed_match what.now (option_map (λ n. n.now) name.entry) role (text_line line.entry)) (map span_pair found.now)) }
 {
     for span in found {
-        push_match(alloc, out, what, name, role, line, *span)?;
+        push_some(alloc, out, what, name, role, line, *span)?;
     }
     Ok(())
 }
@@ -108,9 +133,6 @@ pub(crate) fn push_item(
 {
     match what.print {
         Print::Matches => push_matches(alloc, out, what, name, role, line, found),
-        _ => {
-            push_line(alloc, out, what, name, role, line, found)?;
-            Ok(())
-        }
+        _ => push_line(alloc, out, what, name, role, line, found),
     }
 }

@@ -1,6 +1,5 @@
 // All matches of a line, by the iterator.
 ghost use Rattle.std.specs.Prelude.{◌≡◌, ◌++◌, ◌∷◌, ◌⊎◌, [], ℕ, Err, IfErr, IfOk, OnOk, map};
-ghost use Rattle.std.specs.List.{filter};
 ghost use Rattle.search_types.specs.declared.match_error.MatchErrorKind.TheVariants.{NoMemory};
 ghost use Rattle.regex_pair.specs.Finding.{search_at};
 ghost use Rattle.regex_pair.specs.PairAnswers.{AnswersPair};
@@ -8,7 +7,6 @@ ghost use Rattle.regex_pair.specs.Pairs.{AreCachesOf, PairCache};
 ghost use Rattle.regex_pair.specs.Taken.{IsWholeList};
 ghost use Rattle.pattern_search.specs.Searches.{span_of_found};
 ghost use Rattle.grep_core.specs.Printing.{span_pair};
-ghost use Rattle.grep_core.specs.Report.{is_some_text};
 
 use regex_pair::regex::{Cache, Regex};
 use regex_pair::taken_laws::{a_step_is_refused_as_a_search_is, a_step_takes_one_more};
@@ -47,16 +45,13 @@ pub(crate) fn list(
     Ok(all)
 }
 
-/// The spans of matches, without the empty ones.
+/// The spans of matches.
 pub(crate) fn spans_of(alloc: Global, all: &[Match]) -> Result<Vec<Span>, AllocError>
-    ensures { IfOk result (λ spans. map span_pair spans.items ≡ filter is_some_text (map span_of_found all.now)) }
+    ensures { IfOk result (λ spans. map span_pair spans.items ≡ map span_of_found all.now) }
 {
     let mut spans = Vec::new(alloc);
     for found in all {
-        let span = found.span();
-        if span.start < span.end {
-            spans.push(span)?;
-        }
+        spans.push(found.span())?;
     }
     Ok(spans)
 }

@@ -2,14 +2,13 @@
 ghost use Rattle.std.specs.Prelude.{◌≡◌, IfOk, map, true};
 ghost use Rattle.grep_core.specs.Lines.{searched, unended, without_return};
 ghost use Rattle.grep_core.specs.Printing.{span_pair};
-ghost use Rattle.grep_core.specs.Report.{is_some_text};
 ghost use Rattle.grep_core.specs.Searchers.{IsMatchReported, SearchesFor, found_by};
 ghost use Rattle.grep_core.specs.Reporting.{needs_spans, with_needed_spans};
-ghost use Rattle.std.specs.List.{filter};
 
 use crate::fault::Fault;
 use crate::finder::Finder;
 use crate::output_options::{OutputOptions, Print};
+use crate::printing::shows_matches;
 use search_types::Span;
 use std::alloc::Global;
 
@@ -18,7 +17,7 @@ use std::alloc::Global;
 pub(crate) struct Seen {
     /// Whether the line has a match.
     pub has: bool,
-    /// The matches that aren't empty, if the output depends on matches.
+    /// The matches, if the output depends on matches.
     pub found: Vec<Span>,
 }
 
@@ -27,7 +26,7 @@ pub fn needs_spans(what: &OutputOptions) -> bool
     ensures { result ≡ needs_spans what.now }
 {
     match what.print {
-        Print::Lines => what.color,
+        Print::Lines => shows_matches(what),
         Print::Matches => true,
         Print::Count | Print::NameIfAny | Print::NameIfNone | Print::Nothing => false,
     }
@@ -78,7 +77,7 @@ fn without_return(bytes: &[u8]) -> &[u8]
     bytes
 }
 
-/// Whether some bytes have a match, and which of their matches aren't empty, if the output depends on matches. `is_known` says whether they
+/// Whether some bytes have a match, and their matches, if the output depends on matches. `is_known` says whether they
 /// are known to have a match.
 fn look_in(
     alloc: Global,
@@ -92,7 +91,7 @@ fn look_in(
     ensures has { IfOk result (λ seen. (by : SearchesFor finder.old (needs_spans what.now)) →
         seen.has ≡ (found_by by).has_match (unended line.now)) }
     ensures found { IfOk result (λ seen. (by : SearchesFor finder.old (needs_spans what.now)) →
-        map span_pair seen.found.items ≡ filter is_some_text ((with_needed_spans what.now (found_by by)).spans (unended line.now))) }
+        map span_pair seen.found.items ≡ (with_needed_spans what.now (found_by by)).spans (unended line.now)) }
 {
     let has = match has_match(alloc, finder, line, is_known) {
         Ok(has) => has,
@@ -110,7 +109,7 @@ fn look_in(
     }
 }
 
-/// Whether a line has a match, and which of its matches aren't empty, if the output depends on matches. The line is given without its line
+/// Whether a line has a match, and its matches, if the output depends on matches. The line is given without its line
 /// feed. `is_known` says whether it is known to have a match.
 pub(crate) fn look_at(
     alloc: Global,
@@ -126,7 +125,7 @@ pub(crate) fn look_at(
     ensures has { IfOk result (λ seen. (by : SearchesFor finder.old (needs_spans what.now)) →
         seen.has ≡ (found_by by).has_match (record { bytes = bytes.now; is_ended = is_ended })) }
     ensures found { IfOk result (λ seen. (by : SearchesFor finder.old (needs_spans what.now)) → map span_pair seen.found.items
-        ≡ filter is_some_text ((with_needed_spans what.now (found_by by)).spans (record { bytes = bytes.now; is_ended = is_ended }))) }
+        ≡ (with_needed_spans what.now (found_by by)).spans (record { bytes = bytes.now; is_ended = is_ended })) }
 {
     let line = searched(finder.crlf(), bytes, is_ended);
     match look_in(alloc, finder, what, line, is_known) {

@@ -1,10 +1,12 @@
-/// How many context lines are printed around each selected line.
+/// How many lines are printed as context.
 #[derive(Clone, Copy, Debug, PartialEq, Eq)]
 pub struct Context {
-    /// Lines before it.
+    /// Lines before each selected line.
     pub before: u64,
-    /// Lines after it.
+    /// Lines after each selected line.
     pub after: u64,
+    /// Lines at the beginning of the input, before the first selected line.
+    pub first: u64,
 }
 
 /// What is printed for an input.
@@ -44,6 +46,10 @@ pub struct OutputOptions<'a> {
     pub print: Print,
     /// Whether the number of each line, counted from 1, is printed before it.
     pub numbers: bool,
+    /// Whether the column of the first match, counted in bytes from 1, is printed before each line, and that of each match before it.
+    pub columns: bool,
+    /// Whether a line is printed for each of its matches.
+    pub each_match: bool,
     /// Whether the offset of the first byte, counted from 0, is printed before each line or match.
     pub offsets: bool,
     /// The context lines around selected lines, if asked for. If they are, groups of lines are separated.
@@ -56,7 +62,12 @@ pub struct OutputOptions<'a> {
     pub zero_names: bool,
     /// Whether a tab separates a line or match from the fields before it, if there are any. An empty line has none.
     pub initial_tab: bool,
-    /// The least number of bytes for a number or offset. Spaces precede shorter ones.
+    /// Whether ASCII white space is left out at the beginning of each line or match.
+    pub trim: bool,
+    /// The greatest number of bytes of a line, with its line feed, or match that is printed, if there is one. A short text stands for
+    /// longer ones.
+    pub most_bytes: Option<u64>,
+    /// The least number of bytes for a number, column or offset. Spaces precede shorter ones.
     pub width: usize,
     /// What separates groups of lines, if context is asked for.
     pub groups: GroupSeparator<'a>,

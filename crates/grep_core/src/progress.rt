@@ -3,7 +3,7 @@ ghost use Rattle.std.specs.Prelude.{◌≡◌, ℕ, ◌+◌, List, IfOk, OnOk};
 ghost use Rattle.grep_core.specs.Blocks.{reported_bytes, counts_lines};
 ghost use Rattle.grep_core.specs.ContextPrinting.{Waits};
 ghost use Rattle.grep_core.specs.Lines.{text_lines, split_lines};
-ghost use Rattle.grep_core.specs.Report.{LineMatcher, report_as, selected};
+ghost use Rattle.grep_core.specs.Report.{LineMatcher, first_of, report_as, selected};
 ghost use Rattle.grep_core.specs.Selecting.{count_selected};
 ghost use Rattle.grep_core.specs.declared.progress.Task.{Task as TheTask};
 ghost use Rattle.grep_core.specs.declared.output_options.OutputOptions.{OutputOptions as TheOutputOptions};
@@ -32,9 +32,10 @@ pub(crate) struct Progress {
 }
 
 impl Progress {
-    /// The state before the first line, where `known` describes the lines of earlier inputs.
-    pub(crate) fn new(alloc: Global, known: SeparatorState) -> Progress
-        ensures starts { (t : TheTask) → (f : LineMatcher) → (text : List ℕ) →
+    /// The state before the first line, where `known` describes the lines of earlier inputs, and so many lines are printed as context
+    /// before the first selected one.
+    pub(crate) fn new(alloc: Global, first: u64, known: SeparatorState) -> Progress
+        ensures starts { (t : TheTask) → first ≡ first_of t.what.now.context → (f : LineMatcher) → (text : List ℕ) →
             reported_bytes t f result (split_lines text) ≡
             report_as t.what.now.print t.what.now f t.name.now t.with_name known (text_lines text)
             (selected t.what.now f (text_lines text)) }
@@ -45,7 +46,7 @@ impl Progress {
         Progress {
             number: 1,
             place: 0,
-            telling: Reporter::new(alloc, known),
+            telling: Reporter::new(alloc, first, known),
         }
     }
 }

@@ -12,6 +12,7 @@ ghost use Rattle.grep_core.specs.Reporting.{needs_spans};
 ghost use Rattle.grep_core.specs.declared.progress.Task.{Task as TheTask};
 
 use crate::blocks::{report_block, report_one};
+use crate::context_printer::first_of;
 use crate::fault::Fault;
 use crate::feeds::feed_at;
 use crate::finder::Finder;
@@ -439,7 +440,7 @@ pub fn report_input<R: Read, W: Write>(
         name,
         with_name,
     };
-    let mut progress = Progress::new(alloc, known);
+    let mut progress = Progress::new(alloc, first_of(what), known);
     let mut read = LineBuffer::new(alloc);
     let ended = match report_blocks(
         alloc,

@@ -4,7 +4,7 @@ ghost use Rattle.std.specs.Prelude.{option_map, if◌then◌else◌};
 ghost use Rattle.grep_core.specs.ContextPrinting.{Item, Waits, item};
 ghost use Rattle.grep_core.specs.Lines.{TextLine};
 ghost use Rattle.grep_core.specs.Printing.{span_pair, text_line};
-ghost use Rattle.grep_core.specs.Report.{LineMatcher, reported_spans, report_as, selected, count_line, name_line, counted_as};
+ghost use Rattle.grep_core.specs.Report.{LineMatcher, first_of, report_as, selected, count_line, name_line, counted_as};
 ghost use Rattle.grep_core.specs.Selecting.{count_selected};
 ghost use Rattle.grep_core.specs.Reporting.{shown, prints_lines, reported_lines, may_select, still_reported, count_in_all};
 ghost use Rattle.grep_core.specs.declared.output_options.OutputOptions.{OutputOptions as TheOutputOptions};
@@ -107,22 +107,23 @@ fn count_more(count: u64, is_selected: bool) -> Result<u64, Fault>
 }
 
 impl Reporter {
-    /// The state before the first line, where `known` describes the lines of earlier inputs.
-    pub(crate) fn new(alloc: Global, known: SeparatorState) -> Reporter
-        ensures starts { (w : TheOutputOptions) → (f : LineMatcher) → (name : List ℕ) → (with_name : Bool) → (lines : List TextLine) →
+    /// The state before the first line, where `known` describes the lines of earlier inputs, and so many lines are printed as context
+    /// before the first selected one.
+    pub(crate) fn new(alloc: Global, first: u64, known: SeparatorState) -> Reporter
+        ensures starts { (w : TheOutputOptions) → first ≡ first_of w.context → (f : LineMatcher) → (name : List ℕ) → (with_name : Bool) → (lines : List TextLine) →
             still_reported w f name with_name result lines ≡ report_as w.print w f name with_name known lines (selected w f lines) }
         ensures counts { (w : TheOutputOptions) → (f : LineMatcher) → (lines : List TextLine) →
             count_in_all w f result lines ≡ count_selected (selected w f lines) }
         ensures waits { (w : TheOutputOptions) → Waits w result.course }
     {
         Reporter {
-            course: ContextPrinter::new(alloc, known),
+            course: ContextPrinter::new(alloc, first, known),
             count: 0,
         }
     }
 }
 
-/// Processes one line, given whether it has a match and which of its matches aren't empty.
+/// Processes one line, given whether it has a match and its matches, if the output depends on them.
 pub(crate) fn report_line(
     alloc: Global,
     out: &mut Vec<u8>,
@@ -136,7 +137,7 @@ pub(crate) fn report_line(
 ) -> Result<(), Fault>
     requires { Waits what.now telling.old.course }
     ensures goes_on { OnOk result ((f : LineMatcher) → has ≡ f.has_match (text_line line.entry).content →
-        map span_pair found.now ≡ reported_spans f (text_line line.entry) → (lines : List TextLine) →
+        map span_pair found.now ≡ f.spans (text_line line.entry).content → (lines : List TextLine) →
         out.old.items ++ still_reported what.now f name.now with_name telling.old (text_line line.entry ∷ lines)
         ≡ out.new.items ++ still_reported what.now f name.now with_name telling.new lines) }
     ensures counts { OnOk result ((f : LineMatcher) → has ≡ f.has_match (text_line line.entry).content → (lines : List TextLine) →

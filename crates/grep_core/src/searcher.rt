@@ -126,7 +126,7 @@ impl Searcher {
         Ok(found.is_some())
     }
 
-    /// The matches of a line that aren't empty, from left to right. A search that meets a quit byte returns an error.
+    /// The matches of a line, from left to right. A search that meets a quit byte returns an error.
     pub fn matches(&mut self, alloc: Global, line: &[u8]) -> Result<Vec<Span>, MatchError>
         ensures same { self.new.0 ≡ self.old.0 }
         ensures reported { (how : PatternOptions) (texts : List (List ℕ)) → (it : IsSearcherOf how texts self.old.0) →

@@ -109,7 +109,7 @@ impl<'t> SlowSearch<'t> {
         Some(has)
     }
 
-    /// The matches of the line that aren't empty, by the searcher that is kept, if there is one.
+    /// The matches of the line, by the searcher that is kept, if there is one.
     fn matches_kept(&mut self, alloc: Global, line: &[u8]) -> Result<Option<Vec<Span>>, Fault>
         ensures same { self.new ≡ self.old }
         ensures reported { IfOk result (λ o. IfSome o (λ found. AreReported self.old.0 self.old.1 line.now (map span_pair found.items))) }
@@ -142,7 +142,7 @@ impl<'t> SlowSearch<'t> {
         Ok(has)
     }
 
-    /// The matches of the line that aren't empty, by a searcher that is made for it.
+    /// The matches of the line, by a searcher that is made for it.
     fn matches_anew(&mut self, alloc: Global, line: &[u8]) -> Result<Vec<Span>, Fault>
         ensures same { self.new ≡ self.old }
         ensures reported { IfOk result (λ found. AreReported self.old.0 self.old.1 line.now (map span_pair found.items)) }
@@ -179,7 +179,7 @@ impl<'t> SlowSearch<'t> {
         }
     }
 
-    /// The matches of the line that aren't empty, from left to right.
+    /// The matches of the line, from left to right.
     pub(crate) fn matches(&mut self, alloc: Global, line: &[u8]) -> Result<Vec<Span>, Fault>
         ensures same { self.new ≡ self.old }
         ensures reported { IfOk result (λ found. AreReported self.old.0 self.old.1 line.now (map span_pair found.items)) }

@@ -4,7 +4,7 @@ use Rattle.std.proofs.Common.{ap, append_assoc, map, refl, sym, slice_get, unwra
 use Rattle.std.proofs.lemmas.List.{append-nil, append_cancel_left, map-append}
 use Rattle.std.specs.List.{list_any}
 use Rattle.std.specs.Borrow.{Bor}
-use Rattle.clap.specs.Adds.{AddsOverrides, AddsShortAliases}
+use Rattle.clap.specs.Adds.{AddsAliases, AddsOverrides, AddsShortAliases}
 use Rattle.clap.specs.Words.{AddsArg, AddsInTurn, App, Rule, args_of, rule_of}
 use Rattle.clap.specs.declared.builder.arg.Arg.{Arg}
 use Rattle.clap.specs.declared.builder.command.Command.{Command}
@@ -38,6 +38,13 @@ pub row_lettered : (old new : Arg) (x : ℕ × Bool) → AddsShortAliases old ne
 row_lettered old new x (e, f) =
     let letters = ap (map (λ a. a.0)) f ∙ map-append (λ a. a.0) old.short_aliases.items (x ∷ []) in
     ap option_row e ∙ ap (λ ls. record (option_row old) { other_letters = ls }) letters
+
+-- one more name
+pub row_named : (old new : Arg) (x : Bor (List ℕ) × Bool) → AddsAliases old new (x ∷ []) → option_row new
+    ≡ record (option_row old) { aliases = (option_row old).aliases ++ x.0.now ∷ [] }
+row_named old new x (e, f) =
+    let names = ap (map (λ a. a.0.now)) f ∙ map-append (λ a. a.0.now) old.aliases.items (x ∷ []) in
+    ap option_row e ∙ ap (λ ns. record (option_row old) { aliases = ns }) names
 
 -- ---- the options of a command
 

@@ -191,6 +191,19 @@ given_separator = record (option (codes "group-separator") [] Set) { turns_off =
 abbrev pub no_separator : OptionRow
 no_separator = flag_over (codes "no-group-separator") [] (codes "group-separator")
 
+abbrev pub passthru_option : OptionRow
+passthru_option = record (flag (codes "passthru") []) { aliases = codes "passthrough" ∷ [] }
+
+-- which lines are printed, and how
+abbrev pub line_options : List OptionRow
+line_options =
+    flag (codes "column") []
+    ∷ flag (codes "vimgrep") []
+    ∷ flag (codes "trim") []
+    ∷ option (codes "max-columns") (codes "M") Set
+    ∷ passthru_option
+    ∷ []
+
 -- the format of what is printed
 abbrev pub format_options : List OptionRow
 format_options =
@@ -198,7 +211,7 @@ format_options =
     ∷ flag (codes "initial-tab") (codes "T")
     ∷ given_separator
     ∷ no_separator
-    ∷ []
+    ∷ line_options
 
 -- These change nothing: any file is text, no carriage return is removed, and lines are written before more input is read.
 abbrev pub accepted_options : List OptionRow

@@ -10,7 +10,7 @@ use Rattle.grep_options.specs.declared.numbers.Next.TheVariants.{AnyWord, Value,
 
 -- the option with this letter takes a value
 abbrev pub takes_value : ℕ → Bool
-takes_value b = list_any (λ c. b == c) (codes "efmABCdDgt")
+takes_value b = list_any (λ c. b == c) (codes "efmABCdDgtM")
 
 abbrev pub is_digit : ℕ → Bool
 is_digit b = nat_lt 47 b && nat_lt b 58
@@ -83,13 +83,17 @@ is_awaiting_file w =
     || (bytes_eq w (codes "--exclude-dir") || (bytes_eq w (codes "--glob") || (bytes_eq w (codes "--max-depth") || (bytes_eq w (codes "--sort")
     || (bytes_eq w (codes "--type") || bytes_eq w (codes "--type-not"))))))))
 
+-- one of the options on the format of what is printed
+abbrev pub is_awaiting_format : List ℕ → Bool
+is_awaiting_format w = bytes_eq w (codes "--group-separator") || bytes_eq w (codes "--max-columns")
+
 -- a long option whose value is the next word
 abbrev pub is_awaiting : List ℕ → Bool
 is_awaiting w =
     bytes_eq w (codes "--regexp") || (bytes_eq w (codes "--file") || (bytes_eq w (codes "--directory")
     || (bytes_eq w (codes "--max-count") || (bytes_eq w (codes "--after-context") || (bytes_eq w (codes "--before-context")
     || (bytes_eq w (codes "--context") || (bytes_eq w (codes "--label") || (bytes_eq w (codes "--directories")
-    || (bytes_eq w (codes "--devices") || (bytes_eq w (codes "--group-separator") || is_awaiting_file w))))))))))
+    || (bytes_eq w (codes "--devices") || (is_awaiting_format w || is_awaiting_file w))))))))))
 
 -- what may follow a word of letters
 abbrev pub after_letters : Letters → Next

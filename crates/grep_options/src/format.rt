@@ -1,8 +1,9 @@
 //! Options on the format of what is printed.
-ghost use Rattle.std.specs.Prelude.{◌≡◌, ◌∷◌, [], OnOk};
-ghost use Rattle.grep_options.specs.CommandLine.{AddsOptions, format_options, given_separator, no_separator};
+ghost use Rattle.std.specs.Prelude.{◌≡◌, ◌∷◌, [], OnOk, codes};
+ghost use Rattle.clap.specs.declared.builder.action.ArgAction.TheVariants.{Set};
+ghost use Rattle.grep_options.specs.CommandLine.{AddsOptions, format_options, given_separator, line_options, no_separator, option, passthru_option};
 
-use crate::options::{option, push_flag, push_over};
+use crate::options::{option, push, push_flag, push_long, push_number, push_over};
 use clap::{Arg, ArgAction};
 use std::alloc::{AllocError, Global};
 
@@ -23,6 +24,37 @@ fn push_no_separator<'a>(alloc: Global, args: &mut Vec<Arg<'a>>) -> Result<(), A
     push_over(args, arg, "group-separator")
 }
 
+fn push_max_columns<'a>(alloc: Global, args: &mut Vec<Arg<'a>>) -> Result<(), AllocError>
+    ensures { OnOk result (AddsOptions args.old.items args.new.items (option (codes "max-columns") (codes "M") Set ∷ [])) }
+{
+    let help = "print a short text instead of a line of more bytes than so many; 0 is no limit";
+    push_number(alloc, args, "max-columns", 'M', help)
+}
+
+fn push_passthru<'a>(alloc: Global, args: &mut Vec<Arg<'a>>) -> Result<(), AllocError>
+    ensures { OnOk result (AddsOptions args.old.items args.new.items (passthru_option ∷ [])) }
+{
+    let help = "print the lines that aren't selected too, as context lines";
+    let arg = option(alloc, "passthru", ArgAction::SetTrue, help);
+    let arg = arg.alias("passthrough")?;
+    push(args, arg)
+}
+
+/// Appends the options on which lines are printed, and how.
+fn push_lines<'a>(alloc: Global, args: &mut Vec<Arg<'a>>) -> Result<(), AllocError>
+    ensures { OnOk result (AddsOptions args.old.items args.new.items line_options) }
+{
+    let help =
+        "as -n, and print the column of the first match, or with -o of each, counted in bytes from 1";
+    push_long(alloc, args, "column", help)?;
+    let help = "as -n -H --column, and print a line once for each of its matches";
+    push_long(alloc, args, "vimgrep", help)?;
+    let help = "leave out white space at the beginning of each line";
+    push_long(alloc, args, "trim", help)?;
+    push_max_columns(alloc, args)?;
+    push_passthru(alloc, args)
+}
+
 /// Appends the options on the format of what is printed.
 pub(crate) fn push_format<'a>(alloc: Global, args: &mut Vec<Arg<'a>>) -> Result<(), AllocError>
     ensures { OnOk result (AddsOptions args.old.items args.new.items format_options) }
@@ -32,5 +64,6 @@ pub(crate) fn push_format<'a>(alloc: Global, args: &mut Vec<Arg<'a>>) -> Result<
     let help = "print a tab between a name or number and its line, and numbers in columns";
     push_flag(alloc, args, "initial-tab", 'T', help)?;
     push_separator(alloc, args)?;
-    push_no_separator(alloc, args)
+    push_no_separator(alloc, args)?;
+    push_lines(alloc, args)
 }

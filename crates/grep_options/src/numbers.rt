@@ -1,6 +1,6 @@
 //! Numbers given as options of their own, as `-5`. The toolchain's parser has no such options, so `-C` is put before them.
 ghost use Rattle.std.specs.Prelude.{◌≡◌, ◌++◌, ◌∷◌, [], None, true, false, IfOk, IfSome, IsTrue, OnOk, map, string_bytes};
-ghost use Rattle.grep_options.specs.Numbers.{after_letters, after_other, has_letters, is_awaiting, is_awaiting_file, is_digit, letters_in, letters_of};
+ghost use Rattle.grep_options.specs.Numbers.{after_letters, after_other, has_letters, is_awaiting, is_awaiting_file, is_awaiting_format, is_digit, letters_in, letters_of};
 ghost use Rattle.grep_options.specs.Numbers.{next_word, no_letters, option_words, takes_value, add_byte, add_bytes, with_digit, with_numbers, words_for};
 ghost use Rattle.grep_options.specs.declared.numbers.Next.TheVariants.{AnyWord, Value};
 
@@ -41,6 +41,7 @@ fn takes_value(byte: u8) -> bool
         || byte == b'D'
         || byte == b'g'
         || byte == b't'
+        || byte == b'M'
 }
 
 fn is_digit(byte: u8) -> bool
@@ -172,6 +173,13 @@ fn is_awaiting_file(word: &str) -> bool
         || word == "--type-not"
 }
 
+/// Whether the word is an option on the format of what is printed, whose value is the next word.
+fn is_awaiting_format(word: &str) -> bool
+    ensures { result ≡ is_awaiting_format word.now }
+{
+    word == "--group-separator" || word == "--max-columns"
+}
+
 /// Whether the word is a long option whose value is the next word.
 fn is_awaiting(word: &str) -> bool
     ensures { result ≡ is_awaiting word.now }
@@ -186,7 +194,7 @@ fn is_awaiting(word: &str) -> bool
         || word == "--label"
         || word == "--directories"
         || word == "--devices"
-        || word == "--group-separator"
+        || is_awaiting_format(word)
         || is_awaiting_file(word)
 }
 

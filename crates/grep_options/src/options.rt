@@ -253,7 +253,7 @@ fn number<'a>(alloc: Global, id: &'a str, short: char, help: &'a str) -> Arg<'a>
         .value_name("N")
 }
 
-fn push_number<'a>(
+pub(crate) fn push_number<'a>(
     alloc: Global,
     args: &mut Vec<Arg<'a>>,
     id: &'a str,

@@ -1,5 +1,5 @@
 -- What each option asks for. Options are identified by their long names, under which the matches of the command line hold what was given.
-use Rattle.std.specs.Prelude.{ℕ, Bool, true, false, ◌||◌, List, codes, Option, Some, None, unwrap_or, if◌then◌else◌}
+use Rattle.std.specs.Prelude.{ℕ, ◌^◌, ◌-◌, Bool, true, false, ◌||◌, nat_lt, List, codes, Option, Some, None, unwrap_or, if◌then◌else◌}
 use Rattle.std.specs.Option.{option_or}
 use Rattle.clap.specs.Words.{first_value}
 use Rattle.clap.specs.declared.parser.matches.Found.{Found}
@@ -41,12 +41,16 @@ print_of f =
 -- The numbers of lines before and after each selected line, if either is asked for.
 abbrev pub context_by : Option ℕ → Option ℕ → Option Context
 context_by None None = None
-context_by (Some before) after = Some (record { before = before; after = unwrap_or after 0 })
-context_by None (Some after) = Some (record { before = 0; after = after })
+context_by (Some before) after = Some (record { before = before; after = unwrap_or after 0; first = 0 })
+context_by None (Some after) = Some (record { before = 0; after = after; first = 0 })
 
--- -B, -A, -C: the first two take precedence over the third.
+-- All lines that aren't selected are context lines.
+abbrev pub all_lines : Option Context
+all_lines = Some (record { before = 0; after = 2 ^ 64 - 1; first = 2 ^ 64 - 1 })
+
+-- -B, -A, -C, --passthru: the first two take precedence over the third, and the last one over all of them.
 abbrev pub context_of : Found → Option Context
-context_of f = context_by (option_or (number_given f (codes "before-context")) (number_given f (codes "context")))
+context_of f = if is_set f (codes "passthru") then all_lines else context_by (option_or (number_given f (codes "before-context")) (number_given f (codes "context")))
     (option_or (number_given f (codes "after-context")) (number_given f (codes "context")))
 
 -- --color: `auto` marks what goes to a terminal that supports colours.
@@ -56,11 +60,11 @@ color_by word is_colorful =
     else if is_text (codes "auto") word then is_colorful
     else false
 
--- -h, -H
+-- -h, -H, --vimgrep
 abbrev pub asked_names : Found → Names
 asked_names f =
     if is_set f (codes "no-filename") then Never
-    else if is_set f (codes "with-filename") then Always
+    else if is_set f (codes "with-filename") || is_set f (codes "vimgrep") then Always
     else IfSeveral
 
 -- -d, -r, -R: what is done with a folder that an argument names. Of these options the last one has turned off the others.
@@ -80,23 +84,37 @@ devices_by action follows =
     else ReadNamed
 
 -- --group-separator, --no-group-separator: the text between groups of lines. Of the two options the later one has turned off the other.
+-- --passthru: there are no groups.
 abbrev pub group_given : Found → Option (List ℕ)
 group_given f =
-    if is_set f (codes "no-group-separator") then None
+    if is_set f (codes "no-group-separator") || is_set f (codes "passthru") then None
     else Some (unwrap_or (first_value f (codes "group-separator")) (codes "--"))
 
--- -v, -n, -b, -m, -Z, -T, and what is above. The width of numbers depends on the input.
+-- --column, --vimgrep: columns are printed.
+abbrev pub has_columns : Found → Bool
+has_columns f = is_set f (codes "column") || is_set f (codes "vimgrep")
+
+-- -M: the greatest number of bytes of a line that is printed. 0 is no limit.
+abbrev pub most_bytes_by : Option ℕ → Option ℕ
+most_bytes_by None = None
+most_bytes_by (Some n) = if nat_lt 0 n then Some n else None
+
+-- -v, -n, -b, -m, -Z, -T, --trim, and what is above. The width of numbers depends on the input.
 abbrev pub what_of : Found → Bool → GroupSeparator → OutputOptions
 what_of f is_colorful groups = record {
   invert = is_set f (codes "invert-match");
   print = print_of f;
-  numbers = is_set f (codes "line-number");
+  numbers = is_set f (codes "line-number") || has_columns f;
+  columns = has_columns f;
+  each_match = is_set f (codes "vimgrep");
   offsets = is_set f (codes "byte-offset");
   context = context_of f;
   most = limit_given f (codes "max-count");
   color = color_by (first_value f (codes "color")) is_colorful;
   zero_names = is_set f (codes "null");
   initial_tab = is_set f (codes "initial-tab");
+  trim = is_set f (codes "trim");
+  most_bytes = most_bytes_by (number_given f (codes "max-columns"));
   width = 0;
   groups = groups;
 }

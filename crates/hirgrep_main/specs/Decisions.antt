@@ -1,8 +1,9 @@
 -- What follows from the options, and from the outcome of the files.
-use Rattle.std.specs.Prelude.{ℕ, ◌+◌, ◌-◌, ◌^◌, min, Bool, true, false, not, ◌&&◌, nat_eq, decimal, length, Option, Some, None, if◌then◌else◌}
+use Rattle.std.specs.Prelude.{ℕ, ◌+◌, ◌-◌, ◌^◌, min, Bool, true, false, not, ◌&&◌, ◌||◌, nat_eq, nat_lt, decimal, length, Option, Some, None, if◌then◌else◌}
 use Rattle.grep_core.specs.declared.output_options.Print.{Print}
 use Rattle.grep_core.specs.declared.output_options.Print.TheVariants.{Lines, Matches, Count, NameIfAny, NameIfNone, Nothing}
 use Rattle.grep_core.specs.declared.output_options.OutputOptions.{OutputOptions}
+use Rattle.grep_core.specs.Report.{first_of}
 use Rattle.grep_core.specs.Reporting.{prints_lines}
 use Rattle.std.specs.Char.{is_control}
 use Rattle.hirgrep_main.specs.declared.asked.Devices.{Devices}
@@ -37,13 +38,17 @@ is_most n (Some most) = nat_eq most n
 
 -- ---- what follows
 
+-- Lines are printed whether any is selected or not.
+abbrev pub prints_all : OutputOptions → Bool
+prints_all what = prints_lines what.print && nat_lt 0 (first_of what.context)
+
 -- Reading a file that is written at the same time could go on forever: lines are printed, and the first isn't the last one.
 abbrev pub may_run_on : OutputOptions → Bool
-may_run_on what = prints_lines what.print && not (is_most 1 what.most)
+may_run_on what = prints_lines what.print && not (is_most 1 what.most) || prints_all what
 
 -- No line can be selected, and nothing is printed whatever the inputs are.
 abbrev pub selects_none : OutputOptions → Bool
-selects_none what = is_most 0 what.most && not (prints_names_if_none what.print)
+selects_none what = is_most 0 what.most && not (prints_names_if_none what.print || prints_all what)
 
 -- Whether names are printed before lines, depending on whether several files may be searched.
 abbrev pub shows_names : Names → Bool → Bool

@@ -3,8 +3,8 @@ ghost use Rattle.std.specs.Prelude.{◌≡◌, ◌||◌, codes, unwrap_or};
 ghost use Rattle.clap.specs.Words.{first_value, found_of};
 ghost use Rattle.grep_core.specs.Printing.{group_text};
 ghost use Rattle.grep_options.specs.Options.{is_set};
-ghost use Rattle.hirgrep_main.specs.Asks.{asked_names, asked_of, color_by, context_by, context_of, devices_by, directories_by, how_of};
-ghost use Rattle.hirgrep_main.specs.Asks.{group_given, print_of, what_of};
+ghost use Rattle.hirgrep_main.specs.Asks.{all_lines, asked_names, asked_of, color_by, context_by, context_of, devices_by, directories_by, how_of};
+ghost use Rattle.hirgrep_main.specs.Asks.{group_given, has_columns, most_bytes_by, print_of, what_of};
 
 use clap::ArgMatches;
 use grep_core::{Context, GroupSeparator, OutputOptions, PatternOptions, Print};
@@ -12,6 +12,9 @@ use grep_options::{is_set, limit, number};
 use std::env;
 use std::io::IsTerminal;
 use std::rt::Runtime;
+
+/// More lines than an input has.
+const ALL: u64 = 0xFFFF_FFFF_FFFF_FFFF;
 
 /// Whether file names are printed before lines.
 #[derive(Clone, Copy, PartialEq, Eq)]
@@ -102,14 +105,29 @@ fn context_by(before: Option<u64>, after: Option<u64>) -> Option<Context>
         _ => Some(Context {
             before: before.unwrap_or(0),
             after: after.unwrap_or(0),
+            first: 0,
         }),
     }
 }
 
-/// The context lines: `-B` and `-A` take precedence over `-C`.
+/// The context lines by which all lines are printed.
+fn all_lines() -> Option<Context>
+    ensures { result ≡ all_lines }
+{
+    Some(Context {
+        before: 0,
+        after: ALL,
+        first: ALL,
+    })
+}
+
+/// The context lines: `-B` and `-A` take precedence over `-C`, and `--passthru` over all of them.
 fn context_of(matches: &ArgMatches<'_>) -> Option<Context>
     ensures { result ≡ context_of (found_of matches.now) }
 {
+    if is_set(matches, "passthru") {
+        return all_lines();
+    }
     let both = number(matches, "context");
     let before = number(matches, "before-context").or(both);
     let after = number(matches, "after-context").or(both);
@@ -135,14 +153,14 @@ fn color_of(matches: &ArgMatches<'_>, is_colorful: bool) -> bool
     }
 }
 
-/// Whether file names are printed before lines. Of `-h` and `-H`, the later one has turned off the other.
+/// Whether file names are printed before lines. Of `-h` and `-H`, the later one has turned off the other. `--vimgrep` asks for names too.
 fn names_of(matches: &ArgMatches<'_>) -> Names
     ensures { result ≡ asked_names (found_of matches.now) }
 {
     if is_set(matches, "no-filename") {
         return Names::Never;
     }
-    if is_set(matches, "with-filename") {
+    if is_set(matches, "with-filename") || is_set(matches, "vimgrep") {
         return Names::Always;
     }
     Names::IfSeveral
@@ -190,16 +208,33 @@ pub fn input_name<'a>(matches: &ArgMatches<'a>) -> &'a str
     }
 }
 
-/// What separates groups of lines. Of the two options, the later one has turned off the other.
+/// What separates groups of lines. Of the two options, the later one has turned off the other. With `--passthru` there are no groups.
 fn groups_of<'a>(matches: &ArgMatches<'a>) -> GroupSeparator<'a>
     ensures { group_text result ≡ group_given (found_of matches.now) }
 {
-    if is_set(matches, "no-group-separator") {
+    if is_set(matches, "no-group-separator") || is_set(matches, "passthru") {
         return GroupSeparator::Omitted;
     }
     match matches.get_str("group-separator") {
         Some(text) => GroupSeparator::Given(text.as_bytes()),
         None => GroupSeparator::Hyphens,
+    }
+}
+
+/// Whether columns are printed.
+fn has_columns(matches: &ArgMatches<'_>) -> bool
+    ensures { result ≡ has_columns (found_of matches.now) }
+{
+    is_set(matches, "column") || is_set(matches, "vimgrep")
+}
+
+/// The greatest number of bytes of a line that is printed, if this number is given. 0 is no limit.
+fn most_bytes_by(given: Option<u64>) -> Option<u64>
+    ensures { result ≡ most_bytes_by given }
+{
+    match given {
+        Some(most) if most > 0 => Some(most),
+        _ => None,
     }
 }
 
@@ -211,13 +246,17 @@ fn what_of<'a>(matches: &ArgMatches<'a>, is_colorful: bool) -> OutputOptions<'a>
     OutputOptions {
         invert: is_set(matches, "invert-match"),
         print: print_of(matches),
-        numbers: is_set(matches, "line-number"),
+        numbers: is_set(matches, "line-number") || has_columns(matches),
+        columns: has_columns(matches),
+        each_match: is_set(matches, "vimgrep"),
         offsets: is_set(matches, "byte-offset"),
         context: context_of(matches),
         most: limit(matches, "max-count"),
         color: color_of(matches, is_colorful),
         zero_names: is_set(matches, "null"),
         initial_tab: is_set(matches, "initial-tab"),
+        trim: is_set(matches, "trim"),
+        most_bytes: most_bytes_by(number(matches, "max-columns")),
         width: 0,
         groups: groups_of(matches),
     }

@@ -6,7 +6,7 @@ ghost use Rattle.grep_core.specs.Report.{counted_as, report, selected_count};
 ghost use Rattle.grep_core.specs.Searchers.{SearchesFor, found_by};
 ghost use Rattle.grep_core.specs.Reporting.{needs_spans, prints_lines};
 ghost use Rattle.grep_core.specs.declared.fault.Fault.{Fault as TheFault};
-ghost use Rattle.hirgrep_main.specs.Decisions.{counted, is_most, may_run_on, prints_names_if_none, reads_found, reads_named, selects_none};
+ghost use Rattle.hirgrep_main.specs.Decisions.{counted, is_most, may_run_on, prints_all, prints_names_if_none, reads_found, reads_named, selects_none};
 ghost use Rattle.hirgrep_main.specs.Decisions.{shows_names};
 ghost use Rattle.hirgrep_main.specs.declared.asked.Directories.TheVariants.{Reject, Skip};
 ghost use Rattle.hirgrep_main.specs.declared.searching.Named.TheVariants.{Input, File, Folder, Device};
@@ -177,12 +177,22 @@ fn is_most(number: u64, most: Option<u64>) -> bool
     }
 }
 
+/// Whether lines are printed whether any is selected or not.
+fn prints_all(what: &OutputOptions<'_>) -> bool
+    ensures { result ≡ prints_all what.now }
+{
+    match what.context {
+        Some(context) => prints_lines(what.print) && context.first > 0,
+        None => false,
+    }
+}
+
 /// Whether reading a file that is written at the same time could go on forever. It could if lines are printed and the first isn't the last
 /// one.
 fn may_run_on(asked: &Asked) -> bool
     ensures { result ≡ may_run_on asked.now.what }
 {
-    prints_lines(asked.what.print) && !is_most(1, asked.what.most)
+    prints_lines(asked.what.print) && !is_most(1, asked.what.most) || prints_all(&asked.what)
 }
 
 /// Whether the output would become part of the input. This is reported and recorded as a failure.
@@ -722,7 +732,8 @@ fn search_files(
 fn selects_none(asked: &Asked) -> bool
     ensures { result ≡ selects_none asked.now.what }
 {
-    is_most(0, asked.what.most) && !prints_names_if_none(asked.what.print)
+    is_most(0, asked.what.most)
+        && !(prints_names_if_none(asked.what.print) || prints_all(&asked.what))
 }
 
 /// Searches files with a finder.

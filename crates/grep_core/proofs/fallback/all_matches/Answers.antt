@@ -1,10 +1,8 @@
 use Rattle.std.proofs.Common.{◌≡◌, ◌∙◌, ap, arith, length, map, option_map, subst, ◌+◌, ◌-◌}
-use Rattle.std.specs.List.{filter}
 use Rattle.regex_meta.specs.Programs.{pattern_of}
 use Rattle.regex_meta.specs.declared.program.Program.{Program}
 use Rattle.grep_core.specs.Fallbacks.{found_at, next_after}
 use Rattle.grep_core.specs.Printing.{span_pair}
-use Rattle.grep_core.specs.Report.{is_some_text}
 use Rattle.grep_core.proofs.FallbackLemmas.{all_of, told_all}
 use Rattle.grep_core.proofs.SpanLemmas.{all_counted, all_found, one_more_span}
 use Rattle.grep_core.proofs.fallback.all_matches.Goals as goal
@@ -13,7 +11,7 @@ pub loop-step-preserved : goal.loop-step-preserved
 loop-step-preserved c = (
   c.find_next-next.ensures.same ∙ c.loop-step.invariant.0,
   one_more_span (found_at (pattern_of c.args.searcher.now.program.now) c.args.line.now)
-      (filter is_some_text (all_of c.args.searcher.now.program.now c.args.line.now))
+      (all_of c.args.searcher.now.program.now c.args.line.now)
       (map span_pair c.loop-step.found.items) (map span_pair c.push_some.new.found.items) (length c.args.line.now + 1) c.loop-step.step
       (option_map span_pair c.loop-step.next) (option_map span_pair c.find_next-next.result) (span_pair c.in-Some.span)
       c.loop-step-test.true
@@ -28,7 +26,7 @@ pub returns-in_default-clause-reported : goal.returns-in_default-clause-reported
 returns-in_default-clause-reported c how texts it =
     told_all how texts c.args.searcher.now.program.now c.args.line.now (map span_pair c.loop-step.found.items) c.see_bytes.ensures
     (all_found (found_at (pattern_of c.args.searcher.now.program.now) c.args.line.now)
-    (filter is_some_text (all_of c.args.searcher.now.program.now c.args.line.now))
+    (all_of c.args.searcher.now.program.now c.args.line.now)
     (map span_pair c.loop-step.found.items) (length c.args.line.now + 1 - c.loop-step.step) (option_map span_pair c.loop-step.next)
     (ap (option_map span_pair) c.in_default.is) c.loop-step.invariant.1) it
 
@@ -36,6 +34,6 @@ pub returns-clause-reported : goal.returns-clause-reported
 returns-clause-reported c how texts it =
     told_all how texts c.args.searcher.now.program.now c.args.line.now (map span_pair c.loop-step.found.items) c.see_bytes.ensures
     (all_counted (found_at (pattern_of c.args.searcher.now.program.now) c.args.line.now)
-    (filter is_some_text (all_of c.args.searcher.now.program.now c.args.line.now))
+    (all_of c.args.searcher.now.program.now c.args.line.now)
     (map span_pair c.loop-step.found.items) (length c.args.line.now + 1 - c.loop-step.step) (option_map span_pair c.loop-step.next)
     (omega (arith, c.loop-step-test.false)) c.loop-step.invariant.1) it

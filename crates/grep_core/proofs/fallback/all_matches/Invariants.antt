@@ -1,15 +1,13 @@
 use Rattle.std.proofs.Common.{◌≡◌, ◌++◌, ◌-◌, map, option_map}
-use Rattle.std.specs.List.{filter}
 use Rattle.regex_meta.specs.Programs.{pattern_of}
 use Rattle.grep_core.specs.Fallbacks.{found_at, spans_following}
 use Rattle.grep_core.specs.Printing.{span_pair}
-use Rattle.grep_core.specs.Report.{is_some_text}
 use Rattle.grep_core.proofs.FallbackLemmas.{all_of}
 use Rattle.grep_core.proofs.fallback.all_matches.Given as goal
 
 abbrev pub invariant-loop-step : goal.invariant-loop-step
 invariant-loop-step l =
     (l.searcher.program.now ≡ l.fn.searcher.program.now)
-    × (filter is_some_text (all_of l.fn.searcher.program.now l.line)
-    ≡ map span_pair l.found.items ++ filter is_some_text
+    × (all_of l.fn.searcher.program.now l.line
+    ≡ map span_pair l.found.items ++
     (spans_following (found_at (pattern_of l.fn.searcher.program.now) l.line) (l.most - l.step) (option_map span_pair l.next)))

@@ -15,7 +15,7 @@ returns-in-Err-clause-fault g c by =
     some_of (g.R.Read.remaining c.args.reader.now) _
     (λ text is. text_part t (found_by by) c.args.known c.new-progress.result c.new-read.result text (g.W.Write.contents c.args.writer.now)
     (g.W.Write.contents c.report_blocks.new.writer)
-    c.new-read.ensures (c.new-progress.ensures.starts t (with_needed_spans c.args.what.now (found_by by)))
+    c.new-read.ensures (c.new-progress.ensures.starts t c.first_of.ensures (with_needed_spans c.args.what.now (found_by by)))
     (c.in-Err.ensures.fault by text is))
 
 pub returns-in-Ok-finish-clause-reported : goal.returns-in-Ok-finish-clause-reported
@@ -27,7 +27,7 @@ returns-in-Ok-finish-clause-reported g c by =
     c.bytes.result.now text
     (g.R.Read.remaining c.report_blocks.new.reader) (g.W.Write.contents c.args.writer.now) (g.W.Write.contents c.report_blocks.new.writer)
     (g.W.Write.contents c.finish.new.writer)
-    c.new-read.ensures c.bytes.ensures (c.new-progress.ensures.starts t (with_needed_spans c.args.what.now (found_by by))) a
+    c.new-read.ensures c.bytes.ensures (c.new-progress.ensures.starts t c.first_of.ensures (with_needed_spans c.args.what.now (found_by by))) a
     (c.in-Ok-finish.ensures.written (moved_by c.in-Ok.ensures.same by) a.rest
     (λ ended. at_end (g.R.Read.remaining c.report_blocks.new.reader) a.rest a.is_left (c.in-Ok.ensures.end ended))))
 
@@ -54,6 +54,6 @@ returns-clause-fault g c by =
     c.bytes.result.now text
     (g.R.Read.remaining c.report_blocks.new.reader) (g.W.Write.contents c.args.writer.now) (g.W.Write.contents c.report_blocks.new.writer)
     (g.W.Write.contents c.finish.new.writer)
-    c.new-read.ensures c.bytes.ensures (c.new-progress.ensures.starts t (with_needed_spans c.args.what.now (found_by by))) a
+    c.new-read.ensures c.bytes.ensures (c.new-progress.ensures.starts t c.first_of.ensures (with_needed_spans c.args.what.now (found_by by))) a
     (c.in-Err-finish.ensures.fault (moved_by c.in-Ok.ensures.same by) a.rest
     (λ ended. at_end (g.R.Read.remaining c.report_blocks.new.reader) a.rest a.is_left (c.in-Ok.ensures.end ended))))

@@ -6,4 +6,5 @@ pub returns : goal.returns
 returns c =
     let two = joined c.in_ok-push_flag.ensures c.in_ok-push_flag-2.ensures in
     let three = joined two c.in_ok-push_separator.ensures in
-    on_ok_weaker c.push_no_separator.result (λ p. joined three p) c.push_no_separator.ensures
+    let four = joined three c.in_ok-push_no_separator.ensures in
+    on_ok_weaker c.push_lines.result (λ p. joined four p) c.push_lines.ensures

@@ -1,5 +1,4 @@
 use Rattle.std.proofs.Common.{◌≡◌, ℕ, ◌⊎◌, refl, subst, ◌∙◌, ap, map, List, Err}
-use Rattle.std.specs.List.{filter}
 use Rattle.search_types.specs.declared.match_error.MatchErrorKind.TheVariants.{NoMemory}
 use Rattle.search_types.specs.Found.{Found}
 use Rattle.search_types.specs.Inputs.{Search}
@@ -8,7 +7,6 @@ use Rattle.regex_pair.specs.Finding.{search_at}
 use Rattle.regex_pair.specs.PairAnswers.{AnswersPair}
 use Rattle.regex_pair.specs.Taken.{IsWholeList}
 use Rattle.pattern_search.specs.Searches.{whole_search, span_of_found}
-use Rattle.grep_core.specs.Report.{is_some_text}
 use Rattle.grep_core.specs.Searchers.{IsLineError, sized_settings}
 use Rattle.grep_core.proofs.ToldLemmas.{all_told}
 use Rattle.grep_core.proofs.searcher.Searcher.matches.Goals as goal
@@ -21,7 +19,7 @@ returns-clause-reported c how texts it loops = all_told how texts c.args.self.no
     (subst (λ (p : Pair). IsWholeList p (whole_search c.args.line.now 0) c.in-Ok.all.items)
     (c.deref.ensures ∙ ap (λ (v : Pair × PairCache). v.0) c.self.view_is)
     (subst (λ (q : Search). IsWholeList c.deref.result.now q c.in-Ok.all.items) c.new.ensures c.in-Ok.ensures.whole))
-    (c.in_ok-spans.ensures ∙ ap (λ (fs : List Found). filter is_some_text (map span_of_found fs)) c.deref-2.ensures.value)
+    (c.in_ok-spans.ensures ∙ ap (λ (fs : List Found). map span_of_found fs) c.deref-2.ensures.value)
 
 pub returns-in-Err-clause-refused : goal.returns-in-Err-clause-refused
 returns-in-Err-clause-refused c =
