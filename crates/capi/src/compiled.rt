@@ -262,8 +262,8 @@ impl Compiled {
         self.regex.find_all(alloc, &mut self.cache, haystack, rows)
     }
 
-    /// All matches with their groups, by what goes with the regex: writes the first of them into the rows, from left to right, as many as these
-    /// have room for, and `width` slots of each into the slots, as far as there is room. The slots of a match are those of
+    /// All matches with their groups, by what goes with the regex. Writes the first of them into the rows, from left to right, as many as these
+    /// have room for. Of each it writes `width` slots, as far as there is room. The slots of a match are those of
     /// [`captures_at`](Compiled::captures_at). Returns how many matches there are in all, whatever loops consume. On an error, the number counts
     /// the matches before the search that failed, and these are written as far as there is room. Slots after them are unchanged, or those of the
     /// next match hold no offset.

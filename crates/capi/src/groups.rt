@@ -62,7 +62,7 @@ pub(crate) fn prepared_groups(
     }
 }
 
-/// The same groups once more, with finders of their own. Those that the options ask for could be made before under the same limit, so only
+/// A copy of groups, with finders of its own. Those that the options ask for could be made before under the same limit, so only
 /// memory can run out.
 pub(crate) fn copied_groups(
     alloc: Global,

@@ -191,11 +191,7 @@ pub extern "C" fn hanneddois_pattern_count(alloc: Global, regex: &mut Handle) ->
 
 /// The number of groups of the pattern with a number, group 0 counted. 0 if there is no such pattern, or if the handle is empty.
 #[unsafe(no_mangle)]
-pub extern "C" fn hanneddois_group_count(
-    alloc: Global,
-    regex: &mut Handle,
-    pattern: usize,
-) -> usize
+pub extern "C" fn hanneddois_group_count(alloc: Global, regex: &mut Handle, pattern: usize) -> usize
     ensures same { regex.new.value ≡ regex.old.value }
     ensures empty { regex.old.value ≡ None → result ≡ 0 }
     ensures count { IfSome regex.old.value (λ v. IsGroupCount v pattern result) }
