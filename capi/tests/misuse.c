@@ -330,18 +330,18 @@ static void groups(void)
 
     /* What finds groups may be too large, and then other searches go on. With the flag no regex is made. */
     hanneddois_options limited = {0};
-    limited.size_limit = 6000;
-    if (make(&regex, "((((((a|b){9}){3}))))", &limited) == HANNEDDOIS_OK) {
-        memset(slots, 0x55, sizeof slots);
-        hanneddois_status status = hanneddois_captures(&regex, bytes("abababababababababababababa"), 27, 0, &match, slots, 4, &error);
-        CHECK(status == HANNEDDOIS_OK || (status == HANNEDDOIS_TOO_LARGE && error.limit == 6000 && is_cleared(&match, slots, 4)));
-        CHECK(hanneddois_find_at(&regex, bytes("abababababababababababababa"), 27, 0, &match, &error) == HANNEDDOIS_OK && match.end == 27);
-        limited.flags = HANNEDDOIS_GROUPS;
-        CHECK(make(&copy, "((((((a|b){9}){3}))))", &limited) == status && (status == HANNEDDOIS_OK || error.limit == 6000));
-        CHECK(status == HANNEDDOIS_TOO_LARGE);
-    } else {
-        CHECK(!"the automata fit");
-    }
+    limited.size_limit = 1000;
+    char nested[2 * 60 + 2] = {0};
+    memset(nested, '(', 60);
+    nested[60] = 'a';
+    memset(nested + 61, ')', 60);
+    CHECK(make(&regex, nested, &limited) == HANNEDDOIS_OK);
+    memset(slots, 0x55, sizeof slots);
+    CHECK(hanneddois_captures(&regex, bytes("xa"), 2, 0, &match, slots, 4, &error) == HANNEDDOIS_TOO_LARGE);
+    CHECK(error.limit == 1000 && is_cleared(&match, slots, 4));
+    CHECK(hanneddois_find_at(&regex, bytes("xa"), 2, 0, &match, &error) == HANNEDDOIS_OK && match.end == 2);
+    limited.flags = HANNEDDOIS_GROUPS;
+    CHECK(make(&copy, nested, &limited) == HANNEDDOIS_TOO_LARGE && error.limit == 1000);
     hanneddois_free(&copy);
     hanneddois_free(&regex);
 }
