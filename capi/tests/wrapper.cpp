@@ -426,12 +426,12 @@ static void survives_failed_allocations(const Call &call)
 
 static void allocations_may_fail()
 {
-    regex searched({"[0-9]+ plus a long pattern", "[0-9]+"}), text("[0-9]+", flag::utf8);
+    regex searched({"[0-9]+ plus a long pattern", "[0-9]+"}), text("[0-9]+", flag::utf8), named("(?<digits>[0-9]+)");
     survives_failed_allocations([](failure &why) { regex("a pattern that is longer than a short string", {}, why); });
     survives_failed_allocations([&](failure &why) { searched.find_all("7 and 42", why); });
     survives_failed_allocations([&](failure &why) { searched.matching_patterns("7 and 42", why); });
     survives_failed_allocations([&](failure &why) { text.matches("7 and 42", why).begin(); });
-    survives_failed_allocations([&](failure &why) { regex("(?<digits>[0-9]+)").captures("7 and 42", 0, why); });
+    survives_failed_allocations([&](failure &why) { named.captures("7 and 42", 0, why); });
     survives_failed_allocations([&](failure &why) { searched.captures("7 and 42", 0, why); });
     survives_failed_allocations([&](failure &why) { searched.group_names(0, why); });
     survives_failed_allocations([&](failure &why) { text.captures_iter("7 and 42", why).begin(); });

@@ -51,6 +51,7 @@ REASONS = [
     ("`scanner`", r"scanner"),
     ("`repr` of a regex and of flags", r"self\.check(_flags)?\(|repr\("),
     ("Patterns for bytes are Unicode's and are UTF-8", r"bytes\(\[i\]\)"),
+    ("Groups of a loop whose last round is empty, as of `(a?)*`", r"xyyzy"),
 ]
 # Methods that aren't run: what they compare are times, or they compile patterns of 65,535 repetitions, which takes minutes.
 LEFT_OUT = {"test_search_anchor_at_beginning", "test_repeat_minmax_overflow", "test_repeat_minmax_overflow_maxrepeat"}
