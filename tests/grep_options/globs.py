@@ -72,8 +72,9 @@ def type_options(rng):
 def beside_ripgrep(program, room, run, tell, rng, count):
     for number in range(count):
         words = [f"-g{rng.choice(('', '', '!'))}{rng.choice(('', '', '/'))}{random_glob(rng, GLOB_PARTS)}{rng.choice(('', '', '/'))}" for _ in range(rng.randrange(1, 3))]
+        # with both, a file has to be chosen by the globs and by the types, where ripgrep asks for no type of a file that a glob names
+        words = type_options(rng) if number % 3 == 0 else words
         words += ["--max-depth", str(rng.randrange(4))] if number % 7 == 0 else []
-        words += type_options(rng) if number % 3 == 0 else []
         if any("//" in it for it in words):
             continue
         ours = ascii_lines(run([program, "--files", *words], room))
