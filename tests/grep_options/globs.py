@@ -66,7 +66,7 @@ def beside_grep(program, room, run, tell, rng, count):
 
 def type_options(rng):
     """Types of files that are in the tree, and the order in which ripgrep takes them: those that are left out come last."""
-    return [rng.choice(("-tc", "-th", "--type=txt", "--type-not=c", "--type-not=txt", "-tall", "--type-not=h")) for _ in range(rng.randrange(1, 3))]
+    return [rng.choice(("-tc", "-th", "--type=txt", "--type-not=c", "--type-not=txt", "--type-not=h")) for _ in range(rng.randrange(1, 3))]
 
 
 def beside_ripgrep(program, room, run, tell, rng, count):
