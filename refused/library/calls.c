@@ -79,10 +79,12 @@ static const struct made ALL[] = {
     {"empty loops", "(?:a*)*b()", {7, 3}, 2, {HANNEDDOIS_EMPTY_LOOPS, 0, 0, 0}, HAYSTACK("aab aa b")},
     {"caches of the least size", "[a-z]+[0-9]{3}q|r", {14, 3}, 2, {HANNEDDOIS_RAISE_CAPACITY | HANNEDDOIS_NO_BYTE_CLASSES, 0, 1, 0}, HAYSTACK("abc123 xyz456 q r abc789 zzz000 mnop111")},
     {"shared states", "[\\x{3B1}-\\x{3C9}a-f]+$", {22}, 1, {HANNEDDOIS_SHRINK | HANNEDDOIS_MULTI_LINE, 0, 0, 0}, HAYSTACK("\xCE\xB1\xCE\xB2 abc\nfff\nx")},
+    {"groups", "(a+)(?:-(b))?(?<name>[c-e])*x(y|z)", {28, 6}, 2, {HANNEDDOIS_GROUPS, 0, 0, 0}, HAYSTACK("aa-bcde xy a xz")},
     {"four patterns", "^abb+c[cd]e$", {3, 2, 5, 2}, 4, {HANNEDDOIS_CRLF | HANNEDDOIS_MULTI_LINE, 0, 0, 0}, HAYSTACK("abbb\r\ncdde\r\n")},
 };
 #define COUNT (sizeof ALL / sizeof ALL[0])
 #define ROWS 16
+#define WIDTH 6
 
 static const struct made *now;
 static int wrong;
@@ -100,7 +102,7 @@ struct result {
     hanneddois_status status;
     hanneddois_error error;
     hanneddois_match match, rows[ROWS];
-    size_t count, number;
+    size_t count, number, slots[WIDTH * ROWS];
     uint8_t marks[4], text[256];
 };
 
@@ -144,6 +146,38 @@ static void find_all(hanneddois_regex *regex, struct result *result)
     result->status = hanneddois_find_all(regex, haystack(), now->length, result->rows, ROWS, &result->count, &result->error);
     for (size_t i = result->count; i < ROWS; i++)
         CHECK(result->rows[i].start == (size_t)0x5555555555555555);
+}
+
+static void captures(hanneddois_regex *regex, struct result *result)
+{
+    result->status = hanneddois_captures(regex, haystack(), now->length, 1, &result->match, result->slots, WIDTH, &result->error);
+    if (result->status == HANNEDDOIS_OK)
+        return;
+    CHECK(result->match.pattern == 0 && result->match.start == 0 && result->match.end == 0);
+    for (size_t i = 0; i < WIDTH; i++)
+        CHECK(result->slots[i] == HANNEDDOIS_NO_OFFSET);
+}
+
+static void captures_all(hanneddois_regex *regex, struct result *result)
+{
+    result->status = hanneddois_captures_all(regex, haystack(), now->length, result->rows, ROWS, result->slots, WIDTH * ROWS, WIDTH, &result->count, &result->error);
+    for (size_t i = result->count; i < ROWS; i++)
+        CHECK(result->rows[i].start == (size_t)0x5555555555555555);
+    /* after an error those of the next match may hold no offset */
+    for (size_t i = WIDTH * (result->count + (result->status > HANNEDDOIS_NONE)); i < WIDTH * ROWS; i++)
+        CHECK(result->slots[i] == (size_t)0x5555555555555555);
+}
+
+static void group_count(hanneddois_regex *regex, struct result *result)
+{
+    result->number = hanneddois_group_count(regex, 0);
+    result->status = HANNEDDOIS_OK;
+}
+
+static void group_name(hanneddois_regex *regex, struct result *result)
+{
+    result->number = hanneddois_group_name(regex, 0, 3, result->text, sizeof result->text);
+    result->status = HANNEDDOIS_OK;
 }
 
 static void matching_patterns(hanneddois_regex *regex, struct result *result)
@@ -230,6 +264,10 @@ static const struct row CALLS[] = {
     {"hanneddois_is_match", is_match, 0, 1},
     {"hanneddois_find_at", find_at, 0, 1},
     {"hanneddois_find_all", find_all, 0, 1},
+    {"hanneddois_captures", captures, 0, 1},
+    {"hanneddois_captures_all", captures_all, 0, 1},
+    {"hanneddois_group_count", group_count, 0, 0},
+    {"hanneddois_group_name", group_name, 0, 0},
     {"hanneddois_matching_patterns", matching_patterns, 0, 1},
     {"hanneddois_error_text", error_text, 0, 0},
     {"hanneddois_memory_usage", memory_usage, 0, 0},
@@ -264,10 +302,12 @@ static void check_refused(const struct row *row, const struct result *result, co
         plain.status = HANNEDDOIS_NO_MEMORY;
         CHECK(memcmp(&result->error, &plain, sizeof plain) == 0);
     }
-    if (row->call == find_all) {
+    if (row->call == find_all || row->call == captures_all) {
         CHECK(result->count <= ample->count);
         CHECK(memcmp(result->rows, ample->rows, result->count * sizeof result->rows[0]) == 0);
     }
+    if (row->call == captures_all)
+        CHECK(memcmp(result->slots, ample->slots, result->count * WIDTH * sizeof result->slots[0]) == 0);
 }
 
 /* Makes each allocation of the call fail in turn, and adds up how many did, and how these ended. */
