@@ -1,10 +1,8 @@
 -- What the engine says of its regex, said of a compiled regex.
-use Rattle.std.proofs.Common.{◌≡◌, ℕ, Bool, List, subst, sym}
+use Rattle.std.proofs.Common.{◌≡◌, ℕ, Bool, List, subst}
 use Rattle.regex_syntax.specs.declared.Config.{Config}
 use Rattle.meta_regex.specs.declared.options.Options as engine
 use Rattle.meta_regex.specs.Regexes.{RegexValue}
-use Rattle.captures.specs.Groups.{AreGroupsOf}
-use Rattle.captures.specs.declared.groups.Groups.{Groups}
 use Rattle.capi.specs.declared.options.Options.{Options}
 use Rattle.capi.specs.Compiled.{Regexed, config_by}
 use Rattle.capi.specs.Options.{options_of}
@@ -27,10 +25,3 @@ by_options shared r o v same options is P p =
     subst (λ (w : Regexed). P (options_of w.options) w.texts) is
     (subst (λ (e : engine.Options). P e r.texts) options
     (subst (λ (it : RegexValue). P it.options it.texts) same p))
-
--- groups of patterns are those of a regex that is made of these patterns with these options
-pub groups_of_regex : (o : Options) (ts : List (List ℕ)) (r : RegexValue) (g : Groups) → r.options ≡ options_of o → r.texts ≡ ts →
-    AreGroupsOf (options_of o) ts g → AreGroupsOf r.options r.texts g
-groups_of_regex o ts r g options texts of =
-    subst (λ (ws : List (List ℕ)). AreGroupsOf r.options ws g) (sym texts)
-    (subst (λ (e : engine.Options). AreGroupsOf e ts g) (sym options) of)

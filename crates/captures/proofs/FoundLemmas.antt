@@ -1,5 +1,5 @@
 -- The match of several patterns is that of the first one that matches at its start.
-use Rattle.std.proofs.Common.{◌≡◌, ℕ, zero, suc, ◌<◌, ◌≤◌, Bool, true, false, List, [], ◌∷◌, length, slice_get, replicate, Option, Some, None, IsSome, option_map, refl, sym, ap, ap₂, ◌∙◌, subst, arith}
+use Rattle.std.proofs.Common.{◌≡◌, ℕ, zero, suc, ◌<◌, ◌≤◌, Bool, true, false, List, ◌∷◌, length, slice_get, Option, Some, None, IsSome, option_map, refl, sym, ap, ap₂, ◌∙◌, subst, arith}
 use Rattle.std.proofs.lemmas.Option.{none-some, same_Some}
 use Rattle.regex_hir.specs.Re.{Re, Trace, accept, attempt}
 use Rattle.regex_hir.specs.Matches.{Matches}
@@ -16,7 +16,7 @@ use Rattle.pattern_search.specs.Searches.{found_from, span_of_match, IsOfFirstPa
 use Rattle.pattern_search.specs.Texts.{AreReadAs}
 use Rattle.meta_regex.specs.declared.found_match.FoundMatch.{FoundMatch}
 use Rattle.meta_regex.specs.Regexes.{HasFoundStart, HasFoundSpan, HasPattern, as_found, span_of_row}
-use Rattle.group_finder.specs.Slots.{no_offset, slots_of}
+use Rattle.group_finder.specs.Slots.{slots_of}
 use Rattle.group_finder.specs.Patterns.{IsParsedAs}
 use Rattle.group_finder.specs.Groups.{HasSlots}
 use Rattle.captures.specs.Captures.{HasCaptures, slots_of_found}
@@ -70,10 +70,6 @@ found_there false a h at m e = let first = IsFirst-of_first_between _ at (length
 started : (o : Option Match) (start : ℕ) → option_map (λ m. m.start) o ≡ Some start → (m : Match) × (o ≡ Some m) × (m.start ≡ start)
 started None start e = absurd (none-some start e)
 started (Some m) start e = (m, refl, same_Some m.start start e)
-
-nothing : (o : Option Match) → option_map (λ m. m.start) o ≡ None → o ≡ None
-nothing None e = refl
-nothing (Some m) e = absurd (none-some m.start (sym e))
 
 fits : (h : List ℕ) (b : Re) (i : ℕ) (t : Trace) → i ≤ length h → attempt h b accept i ≡ Some t → (i ≤ t.end) × (t.end ≤ length h)
 fits h b i t inside e =
@@ -157,11 +153,6 @@ some_end config ts h at f slots found finds res read =
     let it = end_of config ts h f None slots at found finds res read in
     absurd (none-some it.0.trace.end it.3)
 
-pub no_span : (config : Config) (ts : List (List ℕ)) (h : List ℕ) (at : ℕ) → HasFoundStart config ts h at None →
-    HasFoundSpan config ts h at None
-no_span config ts h at found res read =
-    ap (option_map span_of_match) (nothing (found_from config.utf8 (alt_all res) h at) (found.start res read))
-
 -- ---- with the slots
 pub spanned : (o : Option Match) (f : FoundMatch) → option_map span_of_match o ≡ Some (span_of_row f) →
     (m : Match) × (o ≡ Some m) × (span_of_match m ≡ span_of_row f)
@@ -186,15 +177,6 @@ captured config ts h at n f slots found pattern written res read =
 pub spanless : (o : Option Match) → option_map span_of_match o ≡ None → o ≡ None
 spanless None e = refl
 spanless (Some m) e = absurd (none-some (span_of_match m) (sym e))
-
-pub none_captured : (config : Config) (ts : List (List ℕ)) (h : List ℕ) (at n : ℕ) (slots : List ℕ) → HasFoundSpan config ts h at None →
-    slots ≡ replicate n no_offset → HasCaptures config ts h at n None slots
-none_captured config ts h at n slots found none res read = record {
-  span = found res read;
-  pattern = tt;
-  slots_are = none ∙ ap (λ (o : Option Match). slots_of_found o n)
-      (sym (spanless (found_from config.utf8 (alt_all res) h at) (found res read)));
-}
 
 pub ends_inside : (h : List ℕ) (res : List Re) (m : Match) → m.start ≤ length h → attempt h (alt_all res) accept m.start ≡ Some m.trace →
     m.trace.end ≤ length h

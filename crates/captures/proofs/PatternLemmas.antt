@@ -1,5 +1,5 @@
 -- The groups of patterns, one by one.
-use Rattle.std.proofs.Common.{◌≡◌, ◌≢◌, ◌⊎◌, ⊎_elim, ℕ, zero, suc, ◌+◌, ◌^◌, ◌<◌, ◌≤◌, List, [], ◌∷◌, ◌++◌, length, map, drop, slice_get, slice_set, chars, Option, Some, None, IsSomeAnd, IfSome, Bor, is_some, true, refl, sym, ap, ◌∙◌, subst, arith, append_assoc, append-nil}
+use Rattle.std.proofs.Common.{◌≡◌, ◌≢◌, ◌⊎◌, ⊎_elim, ℕ, zero, suc, ◌+◌, ◌^◌, ◌<◌, ◌≤◌, List, ◌∷◌, ◌++◌, length, map, drop, slice_get, slice_set, chars, Option, Some, None, IsSomeAnd, IfSome, Bor, is_some, true, refl, sym, ap, ◌∙◌, subst, arith, append_assoc, append-nil}
 use Rattle.std.proofs.lemmas.Bool.{cases_lt}
 use Rattle.std.proofs.lemmas.Option.{none-some, same_Some, slice_get_within}
 use Rattle.regex_syntax.specs.Grammar.{Names, read}
@@ -144,12 +144,6 @@ none_after (p ∷ ps) (suc n) above = none_after ps n (omega (arith, above))
 pub all_ready : (ps : List PatternGroups) (i : ℕ) → length ps ≤ i → ((n : ℕ) → n < i → IsReady ps n) → (n : ℕ) → IsReady ps n
 all_ready ps i above ready n =
     ⊎_elim (λ (below : n < i). ready n below) (λ (after : i ≤ n). none_after ps n (omega (arith, above, after))) (cases_lt n i)
-
-pub one_more_ready : (old new : List PatternGroups) (i : ℕ) → ((n : ℕ) → n < i → IsReady old n) →
-    ((n : ℕ) → IsReady old n → IsReady new n) → IsReady new i → (n : ℕ) → n < i + 1 → IsReady new n
-one_more_ready old new i ready kept made n below =
-    ⊎_elim (λ (before : n < i). kept n (ready n before))
-    (λ (after : i ≤ n). let here : i ≡ n = omega (arith, below, after) in subst (IsReady new) here made) (cases_lt n i)
 
 -- ---- memory
 bytes_after : (ps : List PatternGroups) (i : ℕ) (p : PatternGroups) → slice_get ps i ≡ Some p →

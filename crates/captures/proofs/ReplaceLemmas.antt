@@ -1,5 +1,5 @@
 -- Replacing matches, match by match.
-use Rattle.std.proofs.Common.{◌≡◌, ◌<◌, ◌≤◌, ◌+◌, ◌-◌, ◌*◌, ◌^◌, ◌==◌, ◌++◌, ℕ, zero, suc, min, not, Bool, true, false, List, [], ◌∷◌, length, get_or, slice_get, slice_range, drop, take, Option, Some, None, is_some, option_map, if◌then◌else◌, refl, sym, ap, ◌∙◌, subst, arith, append_assoc, append-nil, take_at}
+use Rattle.std.proofs.Common.{◌≡◌, ◌<◌, ◌≤◌, ◌+◌, ◌-◌, ◌*◌, ◌^◌, ◌==◌, ◌++◌, ℕ, zero, suc, min, not, Bool, true, false, List, ◌∷◌, length, get_or, slice_get, slice_range, drop, Option, Some, None, is_some, option_map, if◌then◌else◌, refl, sym, ap, ◌∙◌, subst, arith, append_assoc}
 use Rattle.std.proofs.lemmas.List.{take_rest}
 use Rattle.std.proofs.lemmas.List.Sums.{prefix_len_is}
 use Rattle.std.proofs.lemmas.Option.{none-some, same_Some, slice_get_within, slice_get-get_or, get_or_from_slice_get}
@@ -22,7 +22,7 @@ use Rattle.group_finder.specs.Slots.{slots_of}
 use Rattle.templates.specs.Expansion.{template_text}
 use Rattle.templates.specs.Slots.{group_in}
 use Rattle.templates.specs.declared.template.Template.{Template}
-use Rattle.templates.proofs.ForCallers.{comes, first_matches, group_text_of, no_more, none_left, replacing_begins, replacing_ends, replacing_goes_on, IsReplacedSoFar}
+use Rattle.templates.proofs.ForCallers.{comes, first_matches, group_text_of, no_more, none_left, replacing_ends, replacing_goes_on, IsReplacedSoFar}
 use Rattle.captures.specs.declared.replacement.Replacement.{Replacement}
 use Rattle.captures.specs.Replacing.{AreTemplatesFor, ComesNext, Continues, IsReplaced, IsReplacementFor, IsTemplateFor, Said, first_found, pattern_at, written_for}
 use Rattle.captures.proofs.FoundLemmas.{found_there, matches_of, of_pattern, read_at, spanless, spanned}
@@ -135,9 +135,6 @@ IsReplacedUpTo config texts h r total old out count last = (said : Said) → IsR
     IsReplacedSoFar (found_from config.utf8 (alt_all res) h) (written_for texts res h said) h total old out count last
 
 module _ (config : Config) (texts : List (List ℕ)) (h : List ℕ) (r : Replacement) (total : ℕ) (old : List ℕ) where
-  pub up_to_begins : IsReplacedUpTo config texts h r total old old 0 None
-  up_to_begins said it res read = replacing_begins (found_from config.utf8 (alt_all res) h) (written_for texts res h said) h total old
-
   pub up_to_goes_on : (out mid new : List ℕ) (count : ℕ) (last : Option ℕ) (f : FoundMatch) →
       IsReplacedUpTo config texts h r total old out count last → count < total → ComesNext config texts h last (Some f) →
       HasPattern config texts h (Some f) → mid ≡ out ++ slice_range h (unwrap_or last 0) f.start →
@@ -201,8 +198,6 @@ module _ (config : Config) (texts : List (List ℕ)) (h : List ℕ) (r : Replace
       (λ res read. none_left (found_from config.utf8 (alt_all res) h) total count _ le)
 
 -- ---- what is appended
-pub nothing_more : (old : List ℕ) → Continues old old
-nothing_more old = ([], sym (append-nil old))
 
 pub continues_on : (old mid new more : List ℕ) → Continues old mid → new ≡ mid ++ more → Continues old new
 continues_on old mid new more first is =
@@ -210,9 +205,3 @@ continues_on old mid new more first is =
 
 pub continues_with : (old mid new : List ℕ) → Continues old mid → Continues mid new → Continues old new
 continues_with old mid new first second = continues_on old mid new second.0 first second.1
-
-pub same_continues : (old mid new : List ℕ) → Continues old mid → new ≡ mid → Continues old new
-same_continues old mid new first is = (first.0, is ∙ first.1)
-
-pub cut_back : (old new : List ℕ) → Continues old new → take (length old) new ≡ old
-cut_back old new c = ap (take (length old)) c.1 ∙ take_at old c.0 (length old) refl

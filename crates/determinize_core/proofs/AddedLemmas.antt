@@ -1,6 +1,6 @@
 -- States of an automaton are added one after another.
-use Rattle.std.proofs.Common.{◌≡◌, ℕ, zero, suc, ◌+◌, ◌<◌, ◌≤◌, Bool, true, false, List, [], ◌∷◌, ◌++◌, length, drop, get_or, refl, sym, ap}
-use Rattle.std.proofs.Common.{◌∙◌, arith, append_assoc, append-nil, cond, not, subst}
+use Rattle.std.proofs.Common.{◌≡◌, ℕ, zero, suc, ◌+◌, ◌<◌, ◌≤◌, true, false, List, ◌∷◌, length, drop, get_or, refl, sym, ap}
+use Rattle.std.proofs.Common.{◌∙◌, arith, not, subst}
 use Rattle.std.specs.List.{list_any}
 use Rattle.std.proofs.lemmas.Bool.{or_parts}
 use lib.Bits.{or_zero_r}
@@ -11,7 +11,6 @@ use Rattle.nfa_core.specs.Nfa.{Node, byte_range, sparse_node, dense_node, look_n
 use Rattle.nfa_core.specs.Nfa.{match_node, Automaton, node_at}
 use Rattle.nfa_core.specs.NfaValue.{look_of, looks_of, is_capture}
 use Rattle.nfa_core.proofs.ForCallers.{looks_any, not_both}
-use Rattle.determinize_core.specs.States.{StateValue}
 use Rattle.determinize_core.specs.Steps.{is_kept, kept_among, looks_with}
 
 -- a list from a member on
@@ -30,33 +29,6 @@ pub next_left : (qs : List ℕ) (k q : ℕ) → k < length qs → q ≡ get_or q
 next_left qs k q within e =
     let next : suc k ≡ k + 1 = omega arith in
     from_member qs k within ∙ (ap (λ (p : ℕ). p ∷ drop (suc k) qs) (sym e) ∙ ap (λ (i : ℕ). q ∷ drop i qs) next)
-
--- what is kept of a list is kept of its first member and then of the others
-kept_by : (b : Bool) (q : ℕ) (xs ys zs : List ℕ) → zs ≡ (cond b (q ∷ []) []) → xs ++ (cond b (q ∷ ys) ys) ≡ (xs ++ zs) ++ ys
-kept_by true q xs ys zs e = ap (λ l. l) (sym (append_assoc xs (q ∷ []) ys)) ∙ ap (λ (l : List ℕ). (xs ++ l) ++ ys) (sym e)
-kept_by false q xs ys zs e = ap (λ (l : List ℕ). l ++ ys) (sym (append-nil xs)) ∙ ap (λ (l : List ℕ). (xs ++ l) ++ ys) (sym e)
-
-kept_first : (a : Automaton) (q : ℕ) (qs xs : List ℕ) → xs ++ kept_among a (q ∷ qs) ≡ (xs ++ kept_among a (q ∷ [])) ++ kept_among a qs
-kept_first a q qs xs = kept_by (is_kept a q) q xs (kept_among a qs) (kept_among a (q ∷ [])) refl
-
--- the state with more states
-abbrev with_ids : StateValue → List ℕ → StateValue
-with_ids v ids = record v { ids = v.ids ++ ids }
-
-module _ (qs : List ℕ) (k : ℕ) (v w : StateValue) (a : Automaton) where
-  -- one more state was added, if it is kept
-  pub kept_left : (q : ℕ) (x : StateValue) → drop k qs ≡ q ∷ drop (k + 1) qs → x ≡ with_ids v (kept_among a (q ∷ [])) →
-      with_ids v (kept_among a (drop k qs)) ≡ w →
-      with_ids x (kept_among a (drop (k + 1) qs)) ≡ w
-  kept_left q x left e all =
-      ap (λ (y : StateValue). with_ids y (kept_among a (drop (k + 1) qs))) e
-      ∙ (ap (λ (l : List ℕ). record v { ids = l }) (sym (kept_first a q (drop (k + 1) qs) v.ids))
-      ∙ (ap (λ (l : List ℕ). with_ids v (kept_among a l)) (sym left) ∙ all))
-
-  -- all states were added
-  pub kept_done : drop k qs ≡ [] → with_ids v (kept_among a (drop k qs)) ≡ w → v ≡ w
-  kept_done none all = ap (λ (l : List ℕ). record v { ids = l }) (sym (append-nil v.ids))
-      ∙ (ap (λ (l : List ℕ). with_ids v (kept_among a l)) (sym none) ∙ all)
 
 -- ---- automata without looks, and without captures
 

@@ -1,5 +1,5 @@
 -- The depth-first search with a stack over the states of an automaton, where some looks are known to hold.
-use Rattle.std.proofs.Common.{◌≡◌, ℕ, zero, suc, ◌+◌, ◌<◌, ◌≤◌, true, false, Bool, List, [], ◌∷◌, ◌++◌}
+use Rattle.std.proofs.Common.{◌≡◌, ℕ, zero, suc, ◌+◌, ◌<◌, ◌≤◌, true, false, Bool, List, ◌∷◌, ◌++◌}
 use Rattle.std.proofs.Common.{length, drop, refl, sym, ap, ◌∙◌, arith, subst}
 use Rattle.std.proofs.Common.{cond, Some, None, append_assoc, append-nil, length-append, not, get_or, length-drop, ◌-◌, ⊎_elim, take}
 use Rattle.std.proofs.lemmas.Bool.{cases_Bool}
@@ -50,9 +50,6 @@ no_ways fail_node looks e = refl
 no_ways (match_node pattern) looks e = refl
 
 module _ (a : Automaton) (looks : ℕ) (qs seen : List ℕ) where
-  pub passes_none : VisitsLeaves a looks qs 0 seen seen
-  passes_none = record { walk = λ later after v. v; grown = ([], sym (append-nil seen), omega arith) }
-
   -- one more was put into the set, or was in it already
   pub passes_one : (k q : ℕ) (met new : List ℕ) (b : Bool) → VisitsLeaves a looks qs k seen met → k < length qs → q ≡ get_or qs k 0 →
       is_epsilon (node_at a q) ≡ false → b ≡ not (has nat_eq q met) → new ≡ cond b (met ++ q ∷ []) met →

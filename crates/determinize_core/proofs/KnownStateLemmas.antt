@@ -1,13 +1,12 @@
 -- What is known by a start is a set of looks, and a state with this set is a state.
-use Rattle.std.proofs.Common.{◌≡◌, ℕ, Bool, true, false, not, [], arith}
-use Rattle.std.specs.Int.Bits.{or_zero_l}
+use Rattle.std.proofs.Common.{ℕ, Bool, true, false, not, arith}
 use Rattle.look_core.specs.Codes.{repr}
 use Rattle.look_core.specs.LookSets.{IsLookSet}
 use Rattle.look_core.specs.Terminators.{Terminator, ends_line}
 use Rattle.look_core.specs.declared.look.Look.{Look}
 use Rattle.look_core.specs.declared.look.Look.TheVariants.{Start as AtStart, StartLF, StartCRLF, WordStartHalfAscii, WordStartHalfUnicode}
 use Rattle.look_core.proofs.ForCallers.{union-lt, repr-lt}
-use Rattle.determinize_core.specs.States.{StateValue, IsState, dead}
+use Rattle.determinize_core.specs.States.{StateValue, IsState}
 use Rattle.determinize_core.specs.LookBehind.{with_if, starts_of, known_at_line, known_at_byte, behind_start, with_look_behind}
 use Rattle.determinize_core.specs.declared.start.Start.{Start}
 use Rattle.determinize_core.specs.declared.start.Start.TheVariants.{NonWordByte, WordByte, Text, LineLF, LineCR, CustomLineTerminator}
@@ -41,15 +40,4 @@ state_with_known b v known state = record {
   patterns = state.patterns;
   states = state.states;
   once = state.once;
-}
-
-pub fresh_with_known : (b : LookBehind) →
-    with_look_behind b dead ≡ record dead { is_from_word = b.is_from_word; is_half_crlf = b.is_half_crlf; look_have = b.look_have }
-fresh_with_known b = λ i. record {
-  is_from_word = b.is_from_word;
-  is_half_crlf = b.is_half_crlf;
-  look_have = or_zero_l b.look_have i;
-  look_need = 0;
-  matches = [];
-  ids = [];
 }

@@ -1,5 +1,5 @@
 -- The parts of which a step of powerset states is made.
-use Rattle.std.proofs.Common.{◌≡◌, ℕ, ◌≤◌, ◌==◌, true, false, not, Bool, List, length, Option, ◌&&◌, ◌||◌, [], sym, ap, ◌∙◌, cond}
+use Rattle.std.proofs.Common.{◌≡◌, ℕ, ◌≤◌, ◌==◌, true, false, not, Bool, List, length, Option, ◌&&◌, ◌||◌, sym, ap, ◌∙◌, cond}
 use Rattle.std.proofs.Common.{All, ◌<◌, subst}
 use Rattle.std.specs.Bool.{nat_eq}
 use Rattle.std.specs.Int.Bits.{and_zero_r}
@@ -28,10 +28,6 @@ module _ (a : Automaton) (t : Terminator) (v : StateValue) (u : Option ℕ) wher
   gains_nothing none =
       let new : ℕ = without (known_before a.reverse t v u) v.look_have in
       ap (λ (s : ℕ). not (s == 0)) (ap (shared_by new) none ∙ and_zero_r new)
-
-  -- if the states aren't closed again, they are the state's own
-  pub before_kept : (b : Bool) → b ≡ gains v (known_before a.reverse t v u) → b ≡ false → ids_before a t v u ≡ v.ids
-  before_kept b reported none = by_gain false (sym reported ∙ none)
 
   pub before_without_looks : IsDistinct nat_eq v.ids → (put : List ℕ) → put ≡ distinct nat_eq v.ids → (need : ℕ) → need ≡ v.look_need →
       need ≡ 0 → put ≡ ids_before a t v u

@@ -1,6 +1,6 @@
 -- Where the bytes of a powerset state have its patterns and its states.
-use Rattle.std.proofs.Common.{◌≡◌, ℕ, zero, suc, ◌+◌, ◌-◌, ◌*◌, ◌^◌, ◌<◌, ◌≤◌, Bool, true, false, List, [], ◌∷◌, ◌++◌, length, take, drop}
-use Rattle.std.proofs.Common.{get_or, refl, sym, ap, ◌∙◌, arith, length-append, length-drop, nat_lt, nat_le, ◌||◌, subst}
+use Rattle.std.proofs.Common.{◌≡◌, ℕ, zero, suc, ◌+◌, ◌-◌, ◌*◌, ◌^◌, ◌<◌, ◌≤◌, Bool, true, List, ◌∷◌, ◌++◌, length, take, drop}
+use Rattle.std.proofs.Common.{get_or, sym, ap, ◌∙◌, arith, length-append, length-drop, nat_lt, nat_le, ◌||◌, subst}
 use Rattle.std.specs.Prelude.{All, slice_index}
 use Rattle.std.specs.Int.{w32, from_le_bytes}
 use Rattle.std.proofs.Math.Seq.{drop-append-add, take-length}
@@ -57,11 +57,6 @@ length-listed v bytes e listed =
 -- whether they are listed, as the flags show
 pub told_listed : (v : StateValue) (bytes : List ℕ) → bytes ≡ encoded v → has_flag (slice_index bytes 0) 2 ≡ is_listed v.matches
 told_listed v bytes e = ap (λ (xs : List ℕ). has_flag (slice_index xs 0) 2) e ∙ listed_back _ _ _ _
-
-pub alone : (ps : List ℕ) (i : ℕ) → is_listed ps ≡ false → i < length ps → get_or ps i 0 ≡ 0
-alone [] i unlisted within = refl
-alone (p ∷ []) i unlisted within = grind arith
-alone (p ∷ q ∷ ps) i unlisted within = cc
 
 -- the states that are read from their offset on
 pub ids_there : (v : StateValue) (bytes : List ℕ) → IsState v → bytes ≡ encoded v →

@@ -1,6 +1,6 @@
 -- Laws of steps.
-use Rattle.std.proofs.Common.{◌≡◌, ℕ, ◌<◌, ◌≤◌, true, false, Bool, ◌&&◌, List, [], ◌∷◌, length, Option, Some, None, refl, ap, ◌∙◌}
-use Rattle.std.proofs.Common.{arith, cond, All, ⊎_elim, option_to_list}
+use Rattle.std.proofs.Common.{◌≡◌, ℕ, ◌<◌, true, false, Bool, ◌&&◌, List, ◌∷◌, length, Option, refl, ap, ◌∙◌}
+use Rattle.std.proofs.Common.{cond, All, ⊎_elim}
 use Rattle.std.proofs.lemmas.Bool.{cases_Bool}
 use Rattle.std.specs.Bool.{nat_eq}
 use lib.Bits.{or_zero_r}
@@ -11,15 +11,13 @@ use Rattle.look_core.specs.Terminators.{Terminator}
 use Rattle.search_types.specs.declared.match_kind.MatchKind.{MatchKind}
 use Rattle.search_types.specs.declared.match_kind.MatchKind.TheVariants.{All as AllMatches, LeftmostFirst}
 use Rattle.nfa_core.specs.Walks.{has, Has, HasNoneTwice}
-use Rattle.nfa_core.specs.Places.{first}
-use Rattle.nfa_core.specs.Runs.{answers}
 use Rattle.nfa_core.specs.Nfa.{Automaton, node_at, IsWellFormed}
 use Rattle.nfa_core.specs.NfaValue.{look_of}
 use Rattle.nfa_core.specs.Reached.{AreBelow}
 use Rattle.nfa_core.proofs.ForCallers.{not_both, has_first, has_later, of_cons, names_equal}
 use Rattle.determinize_core.specs.States.{StateValue, dead}
 use Rattle.determinize_core.specs.Steps.{is_kept, kept_among, looks_with, have_if, is_some_kept, closed, known_before, known_after, gains}
-use Rattle.determinize_core.specs.Steps.{ids_before, families, first_half, pattern_at, patterns_in, reading, unit_steps, states_after}
+use Rattle.determinize_core.specs.Steps.{ids_before, families, first_half, patterns_in, reading, unit_steps, states_after}
 use Rattle.determinize_core.specs.Steps.{step_value, look_behind_of, start_value}
 use Rattle.determinize_core.specs.declared.start.Start.{Start}
 use Rattle.determinize_core.proofs.CloseAllLemmas.{closed_once, closed_below, distinct_from_once, all_from_below}
@@ -76,13 +74,6 @@ start_below a t s q formed low = kept_below a (look_behind_of a t s).look_have (
 
 pub start_once : (a : Automaton) (t : Terminator) (s : Start) (q : ℕ) → IsDistinct nat_eq (start_value a t s q).ids
 start_once a t s q = kept_distinct a (look_behind_of a t s).look_have (q ∷ [])
-
-one_at_most : (o : Option ℕ) → length (option_to_list o) ≤ 1
-one_at_most None = omega arith
-one_at_most (Some p) = omega arith
-
-pub few_matches : (a : Automaton) (t : Terminator) (v : StateValue) (u : Option ℕ) → length (step_value a t LeftmostFirst v u).matches ≤ 1
-few_matches a t v u = one_at_most (first (answers (pattern_at a) (ids_before a t v u)))
 
 -- the dead state
 never_both : (b c : Bool) → (b && (c && false)) ≡ false

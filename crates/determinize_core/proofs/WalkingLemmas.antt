@@ -1,5 +1,5 @@
 -- A sequence of states, one unit after another, and what it costs.
-use Rattle.std.proofs.Common.{◌≡◌, ℕ, ◌+◌, ◌<◌, ◌≤◌, List, [], ◌∷◌, ◌++◌, length, drop, get_or, Option, Some, None, sym, ap, ◌∙◌}
+use Rattle.std.proofs.Common.{◌≡◌, ℕ, ◌+◌, ◌<◌, ◌≤◌, List, ◌∷◌, ◌++◌, length, drop, get_or, Option, Some, None, sym, ap, ◌∙◌}
 use Rattle.std.proofs.Common.{append_assoc, All, subst, ◌*◌, arith, map}
 use Rattle.std.proofs.lemmas.List.{length-map}
 use Rattle.std.proofs.lemmas.Nat.{row_fits}
@@ -62,13 +62,6 @@ module _ (a : Automaton) (t : Terminator) (s : Start) (q : ℕ) (v w : StateValu
 
   pub first_once : IsDistinct nat_eq w.ids
   first_once = subst (λ (x : StateValue). IsDistinct nat_eq x.ids) (sym (is ∙ built)) (start_once a t s q)
-
--- what a start has cost, and a sequence of states after it
-pub start_within : (old new free rest : ℕ) → new ≤ old + 1 + free → new ≤ old + (1 + free) + rest
-start_within old new free rest start = omega arith
-
-pub walk_within : (old mid new free rest : ℕ) → mid ≤ old + 1 + free → new ≤ mid + rest → new ≤ old + (1 + free) + rest
-walk_within old mid new free rest start walk = omega arith
 
 -- if each member of one list is read as the member of another, both lists have one length
 pub as_many : {X Y : Type 0} (f : X → Y) (xs : List X) (ys : List Y) → map f xs ≡ ys → length xs ≡ length ys

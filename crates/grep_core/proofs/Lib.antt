@@ -1,4 +1,3 @@
-mod BlankLemmas
 mod BlockLemmas
 mod BoundedLemmas
 mod BoundedTreeLemmas

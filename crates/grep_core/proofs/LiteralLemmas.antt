@@ -1,16 +1,15 @@
 -- Lines without any of the literals have no match.
-use Rattle.std.proofs.Common.{◌≡◌, ◌≤◌, ◌<◌, inl, inr, ℕ, zero, suc, ◌-◌, true, false, List, [], ◌∷◌, All, length, slice_get, slice_range}
-use Rattle.std.proofs.Common.{Some, None, Bool, true≢false, refl, sym, ap, ◌∙◌, subst, arith}
+use Rattle.std.proofs.Common.{◌≡◌, ◌≤◌, ◌<◌, inl, inr, ℕ, zero, suc, ◌-◌, true, false, List, ◌∷◌, All, length, slice_get, slice_range}
+use Rattle.std.proofs.Common.{Some, None, true≢false, refl, sym, subst, arith}
 use Rattle.std.proofs.lemmas.Bool.{cases_lt}
 use Rattle.std.proofs.lemmas.Option.{none-some, same_Some}
 use Rattle.ucd_perl.specs.Perl.{is_word_char}
 use Rattle.hir_core.specs.Tree.{Tree}
 use Rattle.hir_core.specs.Means.{Means}
 use Rattle.hir_core.proofs.ForCallers.{span_forward}
-use Rattle.line_trees.specs.LineTrees.{line_tree, has_crlf}
+use Rattle.line_trees.specs.LineTrees.{line_tree}
 use Rattle.earliest_ends.specs.Earliest.{looks_by}
-use Rattle.literal_search.specs.Searches.{EndsFrom, StartsNowhere, IsContainedIn, IsNextEnd}
-use Rattle.grep_core.specs.BoundedTrees.{IsTreeOf}
+use Rattle.literal_search.specs.Searches.{EndsFrom, StartsNowhere, IsNextEnd}
 use Rattle.grep_core.specs.declared.patterns.PatternOptions.{PatternOptions}
 use Rattle.grep_core.specs.Candidates.{IsLineStart, IsNextLine, HaveNoMatch}
 use Rattle.grep_core.specs.LiteralLines.{AreLiteralsOf}
@@ -19,15 +18,6 @@ use Rattle.grep_core.proofs.LineCutLemmas.{lines_between}
 use Rattle.grep_core.proofs.CandidateLemmas.{EndNotBefore, have_none_of, line_starts_at, nothing_between}
 
 -- ---- of which tree
-pub literals_of : (how : PatternOptions) (texts literals : List (List ℕ)) (tree line : Tree) (crlf reported : Bool) → how.crlf ≡ crlf →
-    IsTreeOf how texts tree → reported ≡ has_crlf tree → reported ≡ false → line ≡ line_tree crlf tree → IsContainedIn literals line →
-    AreLiteralsOf how texts literals
-literals_of how texts literals tree line crlf reported same mean is none made contained = record {
-  tree = tree;
-  mean = mean;
-  plain = sym is ∙ none;
-  contained = subst (IsContainedIn literals) (made ∙ sym (ap (λ (v : Bool). line_tree v tree) same)) contained;
-}
 
 -- ---- where no span ends
 not_before : (x : Tree) (block : List ℕ) (at k : ℕ) → EndsFrom x block at k → EndNotBefore (x ∷ []) block at k

@@ -1,22 +1,18 @@
 -- Copies of automata with caches of another capacity.
-use Rattle.std.proofs.Common.{◌≡◌, ℕ, false, true, List, Option, Some, Ok, refl, sym, ap, ap₂, ◌∙◌, subst}
+use Rattle.std.proofs.Common.{◌≡◌, ℕ, false, true, Some, sym, ap, ap₂, ◌∙◌, subst}
 use Rattle.nfa_core.specs.NfaValue.{Nfa}
-use Rattle.hir_core.specs.Tree.{Tree}
 use Rattle.thompson_nfa.specs.Compilations.{IsCompiled}
 use Rattle.lazy_dfa.specs.Building.{built}
-use Rattle.lazy_dfa.specs.ConfigValue.{DfaOptions, no_dfa_options, changed_dfa_options}
+use Rattle.lazy_dfa.specs.ConfigValue.{DfaOptions, changed_dfa_options}
 use Rattle.lazy_dfa.specs.Dfas.{Dfa, IsDfa}
 use Rattle.regex_pair.specs.Pairs.{Pair, back_options, pair_built}
-use Rattle.hirscan.specs.Built.{IsBuilt, compile_options}
+use Rattle.hirscan.specs.Built.{compile_options}
 use Rattle.hirscan.proofs.ForCallers.{both_built, dfa_is, dfa_ok, pair_ok}
 use Rattle.grep_core.specs.Searchers.{IsResized, line_settings, sized_settings}
 
 -- the options of automata with this capacity
 abbrev pub sized_options : ℕ → DfaOptions
 sized_options bytes = (sized_settings (Some bytes)).dfa
-
-pub set_once : (bytes : ℕ) → changed_dfa_options no_dfa_options (sized_options bytes) ≡ sized_options bytes
-set_once bytes = refl
 
 module _ (bytes : ℕ) (p q : Pair) (made : pair_built p.forward.nfa p.reverse.nfa (sized_options bytes) ≡ pair_ok q) where
   both : (built p.forward.nfa (sized_options bytes) ≡ dfa_ok q.forward)

@@ -30,8 +30,3 @@ span_start_bounded looks h x i j v u m l within = unsplit_boundary h i v (omega 
 pub span_end_bounded : (looks : Looks) (h : List ℕ) (x : Tree) (i j : ℕ) → IsValidText h → is_utf8_tree x ≡ true →
     Means looks h x i j → i < j → j ≤ length h → is_boundary h j ≡ true
 span_end_bounded looks h x i j v u m l within = unsplit_boundary h j v within (spans_end_whole looks h x i j v u m l within)
-
-pub spans_bounded : (looks : Looks) (h : List ℕ) (x : Tree) (i j : ℕ) → IsValidText h → is_utf8_tree x ≡ true →
-    Means looks h x i j → i < j → j ≤ length h → (is_boundary h i ≡ true) × (is_boundary h j ≡ true)
-spans_bounded looks h x i j v u m l within =
-    (span_start_bounded looks h x i j v u m l within, span_end_bounded looks h x i j v u m l within)

@@ -11,9 +11,6 @@ use Rattle.hirgrep_main.specs.Walking.{Tries}
 or_stays : (a b : Bool) → a ≡ true → (a || b) ≡ true
 or_stays a b e = ap (λ x. x || b) e
 
-pub continues_same : (o : Outcome) → Continues o o
-continues_same o = record { selected = λ e. e; printed = λ e. e; failed = λ e. e; ended = λ e. e }
-
 pub continues_on : {a b c : Outcome} → Continues a b → Continues b c → Continues a c
 continues_on p q = record {
   selected = λ e. q.selected (p.selected e);
@@ -21,9 +18,6 @@ continues_on p q = record {
   failed = λ e. q.failed (p.failed e);
   ended = λ e. q.ended (p.ended e);
 }
-
-pub continues_failed : (o : Outcome) → Continues o (with_failure o)
-continues_failed o = record { selected = λ e. e; printed = λ e. e; failed = λ e. refl; ended = λ e. e }
 
 pub continues_searched : (print : Print) (o : Outcome) (bytes : ℕ) (wrote : Bool) (reported : Result ℕ Fault)
     → Continues o (after_search print o bytes wrote reported)

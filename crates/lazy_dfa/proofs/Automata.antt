@@ -6,6 +6,5 @@ mod AccountingRows
 pub mod BuildLemmas
 pub mod QuitClassLemmas
 pub mod BuiltLemmas
-pub mod FixedLemmas
 pub mod QuitLemmas
 pub mod SupportLemmas

@@ -4,7 +4,6 @@ pub mod ListLemmas
 pub mod CacheLemmas
 pub mod IsCacheLemmas
 pub mod ChangeLemmas
-pub mod MadeLemmas
 pub mod SearchStartLemmas
 pub mod StartCallLemmas
 pub mod StartChangeLemmas

@@ -1,7 +1,7 @@
 -- Lists of literals: what is in them, and how loops from the last literal to the first make other lists.
-use Rattle.std.proofs.Common.{◌≡◌, ◌⊎◌, inl, inr, ℕ, zero, suc, ◌+◌, ◌<◌, true, List, [], ◌∷◌, ◌++◌, length, get_or, take, drop}
-use Rattle.std.proofs.Common.{refl, sym, ap, subst, ◌∙◌, arith, append_assoc}
-use Rattle.std.proofs.lemmas.List.{append-nil, drop_more, take-append-drop}
+use Rattle.std.proofs.Common.{◌≡◌, ◌⊎◌, inl, inr, ℕ, zero, suc, ◌+◌, ◌<◌, true, List, ◌∷◌, ◌++◌, length, get_or, drop}
+use Rattle.std.proofs.Common.{refl, sym, subst, arith}
+use Rattle.std.proofs.lemmas.List.{append-nil, drop_more}
 use Rattle.std.specs.List.{starts_with}
 use Rattle.std.specs.Bool.{nat_eq}
 use Rattle.std.proofs.lemmas.Bool.Decides.{Decides-eqb}
@@ -36,8 +36,6 @@ listed_from xs m n l e w there =
     subst (λ k. (get_or xs m [] ≡ l) ⊎ Listed (drop k xs) l) e (subst (λ ys. Listed ys l) (drop_more xs m [] w) there)
 
 -- ---- lists that keep another one's literals
-pub keeps_same : (xs ys : List (List ℕ)) → xs ≡ ys → KeepsAll xs ys
-keeps_same xs ys e = record { keeps = λ l m. subst (λ zs. Listed zs l) e m }
 
 pub keeps_pushed : (old new : List (List ℕ)) (bytes : List ℕ) → new ≡ old ++ bytes ∷ [] → KeepsAll old new
 keeps_pushed old new bytes e = record { keeps = λ l m. subst (λ zs. Listed zs l) (sym e) (listed_left old (bytes ∷ []) l m) }
@@ -58,45 +56,10 @@ rest_prefix bytes prefix rest e = (starts_is Decides-eqb bytes prefix (starts_wi
 pub prefix_of_itself : (ls : List (List ℕ)) (bytes : List ℕ) → Listed ls bytes → ListsPrefix ls bytes
 prefix_of_itself ls bytes m = record { prefix = bytes; listed = m; begins = rest_prefix bytes bytes [] (sym (append-nil bytes)) }
 
-pub prefix_kept : (old new : List (List ℕ)) (bytes : List ℕ) → KeepsAll old new → ListsPrefix old bytes → ListsPrefix new bytes
-prefix_kept old new bytes k p = record { prefix = p.prefix; listed = k.keeps p.prefix p.listed; begins = p.begins }
-
--- a prefix of the first bytes is one of all
-pub prefix_of_cut : (ls : List (List ℕ)) (n : ℕ) (bytes part : List ℕ) → part ≡ take n bytes → ListsPrefix ls part → ListsPrefix ls bytes
-prefix_of_cut ls n bytes part e p =
-    let rest = drop (length p.prefix) part in
-    let whole : bytes ≡ p.prefix ++ (rest ++ drop n bytes) =
-    sym (take-append-drop n bytes) ∙ ap (λ (t : List ℕ). t ++ drop n bytes) (sym e ∙ prefix_rest part p.prefix p.begins)
-    ∙ append_assoc p.prefix rest (drop n bytes) in
-    record { prefix = p.prefix; listed = p.listed; begins = rest_prefix bytes p.prefix (rest ++ drop n bytes) whole }
-
 pub prefixes_of_keeps : (old new : List (List ℕ)) → KeepsAll old new → ListsPrefixes old new
 prefixes_of_keeps old new k = record { prefixes = λ l m. prefix_of_itself new l (k.keeps l m) }
 
-pub prefixes_then : (xs ys zs : List (List ℕ)) → KeepsAll xs ys → ListsPrefixes ys zs → ListsPrefixes xs zs
-prefixes_then xs ys zs k p = record { prefixes = λ l m. p.prefixes l (k.keeps l m) }
-
 -- ---- loops
-pub keeps_none : (xs new : List (List ℕ)) (n : ℕ) → n ≡ length xs → KeepsAll (drop n xs) new
-keeps_none xs new n e = record { keeps = λ l m. elim (nothing_after xs n l e m) [ ] }
-  where
-    nothing_after : (ys : List (List ℕ)) (k : ℕ) (l : List ℕ) → k ≡ length ys → Listed (drop k ys) l → ⊥
-    nothing_after [] zero l e m = m
-    nothing_after [] (suc k) l e m = absurd (omega (arith, e))
-    nothing_after (y ∷ ys) zero l e m = absurd (omega (arith, e))
-    nothing_after (y ∷ ys) (suc k) l e m = nothing_after ys k l (omega (arith, e)) m
-
-pub prefixes_none : (xs new : List (List ℕ)) (n : ℕ) → n ≡ length xs → ListsPrefixes (drop n xs) new
-prefixes_none xs new n e = prefixes_of_keeps (drop n xs) new (keeps_none xs new n e)
-
-pub prefixes_more : (xs old new : List (List ℕ)) (m n len : ℕ) (part : List ℕ) → m + 1 ≡ n → m < length xs → ListsPrefixes (drop n xs) old →
-    KeepsAll old new → part ≡ take len (get_or xs m []) → ListsPrefix new part → ListsPrefixes (drop m xs) new
-prefixes_more xs old new m n len part e w p k cut one = record {
-  prefixes = λ l there. elim (listed_from xs m n l e w there) [
-    | inl here ↦ subst (λ b. ListsPrefix new b) here (prefix_of_cut new len (get_or xs m []) part cut one)
-    | inr later ↦ prefix_kept old new l k (p.prefixes l later)
-  ];
-}
 
 pub keeps_more : (xs old new : List (List ℕ)) (m n : ℕ) → m + 1 ≡ n → m < length xs → KeepsAll (drop n xs) old → KeepsAll old new →
     Listed new (get_or xs m []) → KeepsAll (drop m xs) new
@@ -106,27 +69,6 @@ keeps_more xs old new m n e w before k one = record {
     | inr later ↦ k.keeps l (before.keeps l later)
   ];
 }
-
-pub crosses_none : (first second new : List (List ℕ)) (n : ℕ) → n ≡ length first → Crosses (drop n first) second new
-crosses_none first second new n e =
-    record { crosses = λ a b m _. elim (no_such a m) [ ] }
-  where
-    no_such : (a : List ℕ) → Listed (drop n first) a → ⊥
-    no_such a m = elim ((keeps_none first [] n e).keeps a m) [ ]
-
-pub crosses_more : (first second old new : List (List ℕ)) (m n : ℕ) → m + 1 ≡ n → m < length first → Crosses (drop n first) second old →
-    KeepsAll old new → Crosses (get_or first m [] ∷ []) second new → Crosses (drop m first) second new
-crosses_more first second old new m n e w before k one = record {
-  crosses = λ a b there other. elim (listed_from first m n a e w there) [
-    | inl here ↦ one.crosses a b (inl here) other
-    | inr later ↦ k.keeps _ (before.crosses a b later other)
-  ];
-}
-
--- one literal before each of a list
-pub front_none : (front : List ℕ) (second new : List (List ℕ)) (n : ℕ) → n ≡ length second → Crosses (front ∷ []) (drop n second) new
-front_none front second new n e =
-    record { crosses = λ a b _ m. elim ((keeps_none second [] n e).keeps b m) [ ] }
 
 pub front_more : (front : List ℕ) (second old new : List (List ℕ)) (m n : ℕ) → m + 1 ≡ n → m < length second →
     Crosses (front ∷ []) (drop n second) old → KeepsAll old new → Listed new (front ++ get_or second m []) →

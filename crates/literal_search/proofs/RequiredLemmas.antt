@@ -1,18 +1,17 @@
 -- What is known of a tree's spans, from what is known of its parts'.
-use Rattle.std.proofs.Common.{◌≡◌, ◌⊎◌, inl, inr, ℕ, zero, suc, ◌+◌, ◌<◌, ◌≤◌, Bool, true, false, List, [], ◌∷◌, length, get_or, drop}
+use Rattle.std.proofs.Common.{◌≡◌, ◌⊎◌, inl, inr, ℕ, zero, suc, ◌+◌, ◌<◌, ◌≤◌, Bool, true, false, List, ◌∷◌, length, get_or, drop}
 use Rattle.std.proofs.Common.{refl, sym, ap, subst, ◌∙◌, arith, Option, Some, true≢false}
 use Rattle.std.proofs.lemmas.List.{drop_more}
 use Rattle.std.specs.List.{slice_range}
 use Rattle.search_core.specs.Utf8.{Spells}
-use Rattle.look_core.specs.declared.look.Look.{Look}
-use Rattle.hir_core.specs.Tree.{Tree, empty, literal, byte_class, char_class, look, repetition, capture, nothing, cat, never, alt, concat, alternation}
+use Rattle.hir_core.specs.Tree.{Tree, literal, byte_class, char_class, repetition, nothing, cat, alt, concat, alternation}
 use Rattle.hir_core.specs.Means.{Looks, Means, Rounds, is_member}
 use Rattle.hir_core.proofs.ForCallers.{span_forward}
 use Rattle.literal_search.specs.Literals.{Listed, KeepsAll, ListsPrefixes, Crosses, BeginsBy, IsOneOf, ContainsOne}
 use Rattle.literal_search.specs.Required.{Describes, IsRequired, IsJoined, IsUnion}
 use Rattle.literal_search.specs.declared.required.Required.{Required}
 use Rattle.literal_search.specs.declared.sets.Joined.{Joined}
-use Rattle.literal_search.proofs.ListLemmas.{prefixes_of_keeps, prefixes_then}
+use Rattle.literal_search.proofs.ListLemmas.{prefixes_of_keeps}
 use Rattle.literal_search.proofs.StandLemmas.{empty_stands, byte_stands, part_stands, begins_of_one, contains_of_begins, begins_wider}
 use Rattle.literal_search.proofs.StandLemmas.{contains_wider, begins_cut, contains_cut, one_kept, begins_crossed, one_crossed}
 
@@ -39,14 +38,6 @@ union_whole first second exact r a b e = record {
   exactly = λ is. (sym e ∙ is, a, b);
 }
 
-pub union_cut : (first second all : List (List ℕ)) (exact : Bool) (r : Joined) → KeepsAll first all → KeepsAll second all →
-    ListsPrefixes all r.literals → r.exact ≡ false → IsUnion first second exact r
-union_cut first second all exact r a b p e = record {
-  first_kept = prefixes_then first all r.literals a p;
-  second_kept = prefixes_then second all r.literals b p;
-  exactly = λ is. absurd (true≢false (sym is ∙ e));
-}
-
 -- ---- leaves
 -- a list of one literal has it
 only : (ls : List (List ℕ)) (l : List ℕ) → ls ≡ l ∷ [] → Listed ls l
@@ -55,9 +46,6 @@ only ls l e = subst (λ xs. Listed xs l) (sym e) (inl refl)
 -- the literal without bytes begins everywhere
 begins_empty : (ls : List (List ℕ)) (h : List ℕ) (i j : ℕ) → ls ≡ [] ∷ [] → i ≤ j → BeginsBy ls h i j
 begins_empty ls h i j e f = record { literal = []; listed = only ls [] e; within = omega (arith, f); there = empty_stands h i }
-
-one_empty : (ls : List (List ℕ)) (h : List ℕ) (i j : ℕ) → ls ≡ [] ∷ [] → i ≡ j → IsOneOf ls h i j
-one_empty ls h i j e f = record { literal = []; listed = only ls [] e; ends = omega (arith, f); there = empty_stands h i }
 
 pub unknown_required : (r : Required) → r.begins ≡ [] ∷ [] → r.exact ≡ false → r.inside ≡ [] ∷ [] → (x : Tree) → IsRequired r x
 unknown_required r b e n x = record {
@@ -68,38 +56,12 @@ unknown_required r b e n x = record {
   };
 }
 
-empty_described : (r : Required) → r.begins ≡ [] ∷ [] → r.inside ≡ [] ∷ [] → (h : List ℕ) (i j : ℕ) → i ≡ j → Describes r h i j
-empty_described r b n h i j e = record {
-  begins = begins_empty r.begins h i j b (omega (arith, e));
-  exact = λ _. one_empty r.begins h i j b e;
-  inside = contains_of_begins r.inside h i j (begins_empty r.inside h i j n (omega (arith, e)));
-}
-
-pub empty_required : (r : Required) → r.begins ≡ [] ∷ [] → r.inside ≡ [] ∷ [] → IsRequired r empty
-empty_required r b n = record { describes = λ looks h i j m. empty_described r b n h i j m }
-
-pub nothing_required : (r : Required) → r.begins ≡ [] ∷ [] → r.inside ≡ [] ∷ [] → IsRequired r nothing
-nothing_required r b n = record { describes = λ looks h i j m. empty_described r b n h i j m }
-
-pub look_required : (r : Required) → r.begins ≡ [] ∷ [] → r.inside ≡ [] ∷ [] → (l : Look) → IsRequired r (look l)
-look_required r b n l = record { describes = λ looks h i j m. empty_described r b n h i j m.0 }
-
-pub never_required : (r : Required) → IsRequired r never
-never_required r = record { describes = λ looks h i j m. elim m [ ] }
-
 -- a span that is a literal of both lists
 described_by : (r : Required) (h : List ℕ) (i j : ℕ) → IsOneOf r.begins h i j → IsOneOf r.inside h i j → Describes r h i j
 described_by r h i j b n = record {
   begins = begins_of_one r.begins h i j b;
   exact = λ _. b;
   inside = contains_of_begins r.inside h i j (begins_of_one r.inside h i j n);
-}
-
-pub literal_required : (r : Required) (bytes : List ℕ) → r.begins ≡ bytes ∷ [] → r.inside ≡ bytes ∷ [] → IsRequired r (literal bytes)
-literal_required r bytes b n = record {
-  describes = λ looks h i j m. described_by r h i j
-      (record { literal = bytes; listed = only r.begins bytes b; ends = m.0; there = m.1 })
-      (record { literal = bytes; listed = only r.inside bytes n; ends = m.0; there = m.1 });
 }
 
 pub bytes_required : (r : Required) (ranges : List (ℕ × ℕ)) → ((b : ℕ) → is_member ranges b ≡ true → Listed r.begins (b ∷ [])) →
@@ -156,19 +118,6 @@ pub optional_required : (r : Required) (min : ℕ) (greedy : Bool) (x : Tree) �
 optional_required r min greedy x q =
     record { describes = λ looks h i j m. q.describes looks h i j (optional_means looks h x m.0 i j m.2 m.3) }
 
-once_means : (looks : Looks) (h : List ℕ) (x : Tree) (n i j : ℕ) → 0 < n → n ≤ 1 → Rounds (Means looks h x) n i j → Means looks h x i j
-once_means looks h x zero i j p l r = absurd (omega (arith, p))
-once_means looks h x (suc zero) i j p l r = subst (λ k. Means looks h x i k) r.2 r.1
-once_means looks h x (suc (suc n)) i j p l r = absurd (omega (arith, l))
-
-pub once_required : (r : Required) (min : ℕ) (greedy : Bool) (x : Tree) → 0 < min → IsRequired r x →
-    IsRequired r (repetition min (Some 1) greedy x)
-once_required r min greedy x p q =
-    record { describes = λ looks h i j m. q.describes looks h i j (once_means looks h x m.0 i j (omega (arith, p, m.1)) m.2 m.3) }
-
-pub capture_required : (r : Required) (x : Tree) (index : ℕ) (name : Option (List ℕ)) → IsRequired r x → IsRequired r (capture index name x)
-capture_required r x index name q = record { describes = λ looks h i j m. q.describes looks h i j m }
-
 -- ---- concatenations
 either_inside : (r first second : List (List ℕ)) (h : List ℕ) (i k j : ℕ) → (r ≡ first) ⊎ (r ≡ second) → i ≤ k → k ≤ j →
     ContainsOne first h i k → ContainsOne second h k j → ContainsOne r h i j
@@ -176,21 +125,6 @@ either_inside r first second h i k j w low high a b = elim w [
   | inl e ↦ subst (λ ls. ContainsOne ls h i j) (sym e) (contains_wider first h i i k j (omega arith) high a)
   | inr e ↦ subst (λ ls. ContainsOne ls h i j) (sym e) (contains_wider second h i k j j low (omega arith) b)
 ]
-
-pub begun_required : (first second r : Required) → r.begins ≡ first.begins → r.exact ≡ false →
-    (r.inside ≡ first.inside) ⊎ (r.inside ≡ second.inside) → (x y : Tree) → IsRequired first x → IsRequired second y → IsRequired r (cat x y)
-begun_required first second r b e n x y p q = record {
-  describes = λ looks h i j m.
-      let low = span_forward looks h x i m.0 m.1 in
-      let high = span_forward looks h y m.0 j m.2 in
-      let a = p.describes looks h i m.0 m.1 in
-      let c = q.describes looks h m.0 j m.2 in
-      record {
-        begins = subst (λ ls. BeginsBy ls h i j) (sym b) (begins_wider first.begins h i m.0 j high a.begins);
-        exact = λ is. absurd (true≢false (sym is ∙ e));
-        inside = either_inside r.inside first.inside second.inside h i m.0 j n low high a.inside c.inside;
-      };
-}
 
 -- the literals inside are those of one part, or those with which both begin
 whole_inside : (r inner whole : List (List ℕ)) (h : List ℕ) (i j : ℕ) → (r ≡ inner) ⊎ (r ≡ whole) → ContainsOne inner h i j →

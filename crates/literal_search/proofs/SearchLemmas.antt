@@ -1,5 +1,5 @@
 -- Searches for literals, and which spans they skip.
-use Rattle.std.proofs.Common.{◌≡◌, ◌≢◌, inl, inr, ℕ, ◌+◌, ◌-◌, ◌<◌, ◌≤◌, List, [], ◌++◌, length, get_or, take, drop, Some, slice_get}
+use Rattle.std.proofs.Common.{◌≡◌, ◌≢◌, inl, inr, ℕ, ◌+◌, ◌-◌, ◌<◌, ◌≤◌, List, ◌++◌, length, get_or, take, drop, Some, slice_get}
 use Rattle.std.proofs.Common.{refl, sym, ap, subst, ◌∙◌, arith}
 use Rattle.std.proofs.Math.Seq.{take-append_seam}
 use Rattle.std.proofs.lemmas.List.{take-append-drop}
@@ -10,11 +10,9 @@ use Rattle.hir_core.specs.Tree.{Tree}
 use Rattle.hir_core.specs.Means.{Looks}
 use Rattle.hir_core.specs.PreferredEnds.{preferred_ends}
 use Rattle.hir_core.proofs.ForCallers.{span_within, nil_from_none, preferred_ends_sound}
-use Rattle.literal_search.specs.Literals.{BeginsBy, ContainsOne}
+use Rattle.literal_search.specs.Literals.{BeginsBy}
 use Rattle.literal_search.specs.Searches.{NoneBegins, AdvancesTo, EndsFrom, StartsFrom, StartsNowhere, IsContainedIn}
 use Rattle.literal_search.specs.Searches.{IsBegunBy}
-use Rattle.literal_search.specs.Required.{IsRequired}
-use Rattle.literal_search.specs.declared.required.Required.{Required}
 use Rattle.literal_search.proofs.ListLemmas.{listed_number, listed_at}
 use Rattle.literal_search.proofs.StandLemmas.{stands_rest, rest_stands}
 
@@ -56,24 +54,7 @@ pub stop_of_first : (ls : List (List ℕ)) (h : List ℕ) (i k n : ℕ) →
     NoneBefore (AnyOccursAt h ls) i (length h + 1) k × FirstNeedleAt h ls k n → AdvancesTo ls h i k × BeginsBy ls h k (length h)
 stop_of_first ls h i k n f = (stop_of_before ls h i k f.0, begins_of_occurs ls h k n f.1.within f.1.occurs)
 
--- a search that isn't made
-pub stop_at_start : (ls : List (List ℕ)) (h : List ℕ) (i : ℕ) → i ≤ length h → AdvancesTo ls h i i
-stop_at_start ls h i w = record {
-  from = omega arith;
-  within = w;
-  none = record { none = λ k low high. absurd (omega (arith, low, high)) };
-}
-
 -- ---- spans
-pub contained_of_required : (r : Required) (x : Tree) (ls : List (List ℕ)) → ls ≡ r.inside → IsRequired r x → IsContainedIn ls x
-contained_of_required r x ls e q = record {
-  contained = λ looks h i j m. subst (λ l. ContainsOne l h i j) (sym e) (q.describes looks h i j m).inside;
-}
-
-pub begun_of_required : (r : Required) (x : Tree) (ls : List (List ℕ)) → ls ≡ r.begins → IsRequired r x → IsBegunBy ls x
-begun_of_required r x ls e q = record {
-  begun = λ looks h i j m. subst (λ l. BeginsBy l h i j) (sym e) (q.describes looks h i j m).begins;
-}
 
 -- a literal that ends within the haystack begins in it
 to_the_end : (ls : List (List ℕ)) (h : List ℕ) (k j : ℕ) → j ≤ length h → BeginsBy ls h k j → BeginsBy ls h k (length h)

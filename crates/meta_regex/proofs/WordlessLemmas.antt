@@ -1,5 +1,5 @@
 -- The toolchain's matcher finds nothing before the least start of a match without looks at words.
-use Rattle.std.proofs.Common.{◌≡◌, ◌↔◌, ◌⊎◌, ◌&&◌, ℕ, zero, suc, ◌<◌, ◌≤◌, Bool, true, false, List, [], ◌∷◌, length, map, All, Option, Some, None, option_map}
+use Rattle.std.proofs.Common.{◌≡◌, ◌↔◌, ◌⊎◌, ◌&&◌, ℕ, zero, suc, ◌<◌, ◌≤◌, Bool, true, false, List, ◌∷◌, length, map, All, Option, Some, None, option_map}
 use Rattle.std.proofs.Common.{refl, sym, ap, ap₂, ◌∙◌, subst, arith, inl, inr, is_some, lt-ltb, true≢false, replicate, slice_get}
 use Rattle.std.proofs.lemmas.List.{length-map}
 use Rattle.std.proofs.lemmas.Option.{slice_get-map, slice_get_within}
@@ -30,14 +30,13 @@ use Rattle.hirscan.specs.OverlappingTrees.{IsReportedEnd, IsReportedWith}
 use Rattle.hirscan.specs.Regexes.{IsSearchOf, query_of}
 use Rattle.pattern_text.specs.SameEnds.{pattern_looks}
 use Rattle.search_core.specs.ByteSets.{has}
-use Rattle.pattern_search.specs.Searches.{found_from, whole_query, whole_search, which_match, span_of_match, IsMatchOf}
+use Rattle.pattern_search.specs.Searches.{found_from, whole_query, whole_search, which_match, IsMatchOf}
 use Rattle.pattern_search.specs.Texts.{AllMean}
 use Rattle.pattern_search.specs.Written.{FindsWhatIsWritten}
 use Rattle.pattern_search.proofs.ForCallers.{finds_what_is_written, same_patterns, tried, found_is, may_begin}
-use Rattle.meta_regex.specs.declared.found_match.FoundMatch.{FoundMatch}
 use Rattle.meta_regex.specs.declared.fallback.Fallback.{Fallback}
 use Rattle.meta_regex.specs.Fallbacks.{AreFallbacksOf, finds_any}
-use Rattle.meta_regex.specs.Regexes.{AreWhich, HasFoundStart, HasFoundSpan}
+use Rattle.meta_regex.specs.Regexes.{AreWhich}
 use Rattle.meta_regex.specs.Wordless.{MayBeginAt, MayMatch, both_true}
 use Rattle.meta_regex.proofs.FallbackLemmas.{which_slowly}
 use Rattle.meta_regex.proofs.FoundLemmas.{read_as_many}
@@ -232,28 +231,3 @@ pub which_of_may : (h : List ℕ) → All (λ b. b < 256) h → (config : Config
     AreFallbacksOf config ts rs → MayMatch config ts h may → tests ≡ both_true may (map (finds_any h) rs) → AreWhich config ts h tests
 which_of_may h bytes config ts rs may tests of allowed is res read =
     is ∙ ap (both_true may) (which_slowly h bytes config ts rs (map (finds_any h) rs) of refl res read) ∙ allowed res read
-
--- what a search from the later offset returns is what one from the first offset returns
-module _ (config : Config) (texts : List (List ℕ)) (h : List ℕ) (at : ℕ) where
-  pub start_later : (s : ℕ) (o : Option FoundMatch) → MayBeginAt config texts h at (Some s) → HasFoundStart config texts h s o →
-      HasFoundStart config texts h at o
-  start_later s o b found = record {
-    start = λ res read. ap (option_map (λ m. m.start)) (b.1 res read) ∙ found.start res read;
-    pattern = found.pattern;
-  }
-
-  pub span_later : (s : ℕ) (o : Option FoundMatch) → MayBeginAt config texts h at (Some s) → HasFoundSpan config texts h s o →
-      HasFoundSpan config texts h at o
-  span_later s o b found res read = ap (option_map span_of_match) (b.1 res read) ∙ found res read
-
-  pub no_start : MayBeginAt config texts h at None → HasFoundStart config texts h at None
-  no_start b = record {
-    start = λ res read. ap (option_map (λ m. m.start)) (b res read);
-    pattern = λ res read. tt;
-  }
-
-  pub no_span : MayBeginAt config texts h at None → HasFoundSpan config texts h at None
-  no_span b res read = ap (option_map span_of_match) (b res read)
-
-  pub begins_here : at ≤ length h → MayBeginAt config texts h at (Some at)
-  begins_here inside = (inside, λ res read. refl)

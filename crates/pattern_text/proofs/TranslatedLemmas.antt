@@ -1,5 +1,5 @@
 -- The equations of `translated`, one for each variant, and what holds of the tree of every pattern.
-use Rattle.std.proofs.Common.{◌≡◌, ℕ, ◌+◌, ◌≤◌, min, max, nat_le, nat_lt, Bool, true, false, ◌&&◌, List, [], ◌∷◌, ◌++◌, map, Option}
+use Rattle.std.proofs.Common.{◌≡◌, ℕ, ◌+◌, ◌≤◌, min, max, nat_le, nat_lt, Bool, true, false, ◌&&◌, List, ◌∷◌, ◌++◌, map, Option}
 use Rattle.std.proofs.Common.{option_map, Vec, Box, Global, refl, sym, ap, ◌∙◌, subst, arith, if◌then◌else◌, le-leb, lt-ltb}
 use Rattle.std.proofs.lemmas.Bool.{and_from, or_left, or_right}
 use Rattle.std.proofs.lemmas.Str.{is_utf8-from_IsUtf8}
@@ -13,9 +13,9 @@ use Rattle.regex_hir.specs.declared.look.Look as look_type
 use Rattle.regex_hir.specs.declared.hir.Hir.{Hir, Hir-F, fold-roll-Hir, fold_out-Hir, map-Hir, Row_of-Hir, end_of-Hir, more_of-Hir}
 use Rattle.regex_hir.specs.declared.hir.Hir.{items-the_row-Hir, items_shown-the_row-Hir-0}
 use Rattle.regex_hir.specs.declared.hir.Hir.{Concat', Alternation', Repetition', Capture'}
-use Rattle.regex_hir.specs.declared.hir.Hir.TheVariants.{Empty, Literal, Bytes, Chars, Look, Repetition, Capture, Concat, Alternation}
+use Rattle.regex_hir.specs.declared.hir.Hir.TheVariants.{Empty, Literal, Bytes, Chars, Look, Repetition, Capture}
 use Rattle.regex_hir.specs.declared.hir.Hir.TheVariants.{rolls-Empty, rolls-Literal, rolls-Bytes, rolls-Chars, rolls-Look, rolls-Repetition}
-use Rattle.regex_hir.specs.declared.hir.Hir.TheVariants.{rolls-Capture, rolls-Concat, rolls-Alternation, outs-Concat', outs-Alternation'}
+use Rattle.regex_hir.specs.declared.hir.Hir.TheVariants.{rolls-Capture, outs-Concat', outs-Alternation'}
 use Rattle.regex_hir.proofs.MeaningLemmas.{meaning-Empty, meaning-Literal, meaning-Bytes, meaning-Chars, meaning-Look, meaning-Repetition}
 use Rattle.regex_hir.proofs.MeaningLemmas.{meaning-Capture}
 use Rattle.regex_syntax.specs.Grammar.{Names}
@@ -61,14 +61,6 @@ module _ (names : Names) where
       translated names (Capture index sub) ≡ tree.capture index (name_at names index) (translated names sub.value)
   translated-Capture index sub =
       ap (translated names) (sym (rolls-Capture index sub)) ∙ fold-roll-Hir Tree (node_tree names) (Hir-F.Capture index sub)
-
-  pub translated-Concat : (subs : Vec Hir Global) → translated names (Concat subs) ≡ concat (map (translated names) subs.items)
-  translated-Concat subs = ap (translated names) (sym (rolls-Concat subs)) ∙ fold-roll-Hir Tree (node_tree names) (Hir-F.Concat subs)
-
-  pub translated-Alternation : (subs : Vec Hir Global) →
-      translated names (Alternation subs) ≡ alternation (map (translated names) subs.items)
-  translated-Alternation subs =
-      ap (translated names) (sym (rolls-Alternation subs)) ∙ fold-roll-Hir Tree (node_tree names) (Hir-F.Alternation subs)
 
 -- ---- a pattern and its tree match alike
 -- both prefer the same ends and have the same spans, and the tree's groups have these names

@@ -1,5 +1,5 @@
 -- The list of all answers: each step of a loop that writes it, that the ends rise, and that no answer is cut off.
-use Rattle.std.proofs.Common.{◌≡◌, ℕ, zero, suc, ◌+◌, ◌-◌, ◌<◌, ◌≤◌, ◌&&◌, Bool, true, false, cond, if◌then◌else◌, List, [], ◌∷◌, ◌++◌}
+use Rattle.std.proofs.Common.{◌≡◌, ℕ, zero, suc, ◌+◌, ◌-◌, ◌<◌, ◌≤◌, ◌&&◌, Bool, true, false, cond, if◌then◌else◌, List, ◌∷◌, ◌++◌}
 use Rattle.std.proofs.Common.{Option, Some, None, nat_eq, refl, sym, ap, ◌∙◌, inl, inr, arith, append-nil, append_assoc, eq-eqb}
 use Rattle.std.specs.List.{All}
 use Rattle.std.proofs.lemmas.Bool.{cases_lt}
@@ -22,11 +22,6 @@ pub answers_done : (answer : ℕ → Option Found) (written : List Found) (n : �
 answers_done answer written zero last at is = sym (append-nil written)
 answers_done answer written (suc n) last at is =
     sym (append-nil written) ∙ ap (λ o. written ++ and_on o (λ g. answers_from answer n (Some g.end) g.end)) is
-
--- ... or none is asked for
-pub none_asked : (answer : ℕ → Option Found) (written : List Found) (n : ℕ) (last : Option ℕ) (at : ℕ) → n ≡ 0 →
-    written ≡ written ++ answers_from answer n last at
-none_asked answer written n last at e = sym (append-nil written) ∙ ap (λ k. written ++ answers_from answer k last at) (sym e)
 
 -- a span between two offsets that ends after the first
 pub record IsPast (at e : ℕ) (f : Found) : Type 0 where
@@ -77,14 +72,6 @@ module _ (answer : ℕ → Option Found) (e : ℕ) (ok : AnswersWithin answer e)
   -- the next answer after one that ended at the present offset
   next_past : (at : ℕ) (f : Found) → next_answer answer (Some at) at ≡ Some f → IsPast at e f
   next_past at f next = next_is_past at f (answer at) refl next
-
-  next_fits : (last : Option ℕ) (at : ℕ) (f : Found) (b : Bool) → cond b (answer (at + 1)) (answer at) ≡ Some f → f.end ≤ e
-  next_fits last at f true next = ok.within (at + 1) f next
-  next_fits last at f false next = ok.within at f next
-
-  -- no answer ends past the end
-  pub next_within : (last : Option ℕ) (at : ℕ) (f : Found) → Some f ≡ next_answer answer last at → f.end ≤ e
-  next_within last at f next = next_fits last at f (is_repeat last (answer at)) (sym next)
 
   rise_on : (at : ℕ) (on : Found → List Found) → ((f : Found) → EndsRise (Some f.end) (on f)) → (o : Option Found) →
       next_answer answer (Some at) at ≡ o → EndsRise (Some at) (and_on o on)

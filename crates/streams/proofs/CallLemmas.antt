@@ -1,6 +1,6 @@
 -- What the calls of a stream make of what was read.
-use Rattle.std.proofs.Common.{◌≡◌, ◌≢◌, ◌⊎◌, ◌∙◌, ◌+◌, ◌<◌, ◌++◌, ◌==◌, [], ◌∷◌, ℕ, zero, suc, Bool, true, false, List, Option, Some, None}
-use Rattle.std.proofs.Common.{length, length-take-le, map, take, refl, sym, ap, subst, arith, inl, inr, true≢false, if◌then◌else◌}
+use Rattle.std.proofs.Common.{◌≡◌, ◌≢◌, ◌⊎◌, ◌∙◌, ◌+◌, ◌<◌, ◌++◌, ◌==◌, ◌∷◌, ℕ, zero, suc, Bool, true, false, List, Option, Some, None}
+use Rattle.std.proofs.Common.{length, length-take-le, take, refl, sym, ap, subst, arith, inl, inr, true≢false, if◌then◌else◌}
 use Rattle.std.specs.Prelude.{Err, IfErr, IfOk, IfSome, Ok, Result, ⊤}
 use Rattle.std.proofs.lemmas.Bool.{eqb-true}
 use Rattle.std.proofs.lemmas.List.{take_all}
@@ -8,9 +8,9 @@ use Rattle.determinize_core.specs.States.{StateValue}
 use Rattle.lazy_dfa.specs.Caches.{CacheValue, HeldAt, IsCacheOf}
 use Rattle.lazy_dfa.specs.Dfas.{Dfa, after, is_dead}
 use Rattle.streams.specs.Errors.{IsStreamError}
-use Rattle.streams.specs.Feeding.{IsStreamClosed, IsEntered, IsFed, IsLast, IsLastError, IsOpenPoint, begun_stream, begun_point, outcome_of, settled}
+use Rattle.streams.specs.Feeding.{IsStreamClosed, IsEntered, IsFed, IsLast, IsOpenPoint, begun_stream, begun_point, outcome_of, settled}
 use Rattle.streams.specs.Reading.{Appends, IsFull, IsPieceRead, IsReadError, IsStepError, is_failed, within}
-use Rattle.streams.specs.Streams.{IsPointOf, IsStreamOf, stream_after, stream_end, stream_ends_at, ends_before, stream_ends, fed, first_state_of, last_at, last_patterns}
+use Rattle.streams.specs.Streams.{IsPointOf, stream_after, stream_ends_at, ends_before, stream_ends, fed, first_state_of, last_at, last_patterns}
 use Rattle.streams.specs.Streams.{next_at, point_in}
 use Rattle.streams.specs.declared.errors.StreamError.{StreamError}
 use Rattle.streams.specs.declared.errors.StreamError.TheVariants.{Closed as ClosedError, GaveUp, NoMemory, NoRoom, Quit, TooLong}
@@ -135,9 +135,6 @@ open_quiet Dead o = refl
 open_quiet (Failed b) o = absurd o
 open_quiet Closed o = refl
 
-pub quiet_open : (p : Point) → IsOpenPoint p → is_failed p ≡ false
-quiet_open p o = open_quiet p o
-
 not_failed : (p : Point) (b : ℕ) → is_failed p ≡ false → p ≡ Failed b → ⊥
 not_failed p b e f = true≢false (sym (ap is_failed f) ∙ e)
 
@@ -247,17 +244,6 @@ module _ (d : Dfa) (s : Stream) (bytes : List ℕ) (rows after : List StreamMatc
       (subst (λ (v : Result ⊤ StreamError). IsFed d s (settled s r) bytes rows after (record { taken = r.taken; count = r.count }) v) (sym c)
       fed_settled))
 
-  own_by : (t : ℕ) → r.taken ≡ t → IsStreamOf d s → IsStreamOf d (settled s r)
-  own_by zero e own =
-      let is : (r.taken == 0) ≡ true = ap (λ (m : ℕ). m == 0) e in
-      subst (λ (b : Bool). IsStreamOf d (if b then s else r.stream)) (sym is) own
-  own_by (suc t) e own =
-      let is = not_zero (r.taken == 0) r.taken refl (omega (arith, e)) in
-      subst (λ (b : Bool). IsStreamOf d (if b then s else r.stream)) (sym is) x.own
-
-  pub own_settled : IsStreamOf d s → IsStreamOf d (settled s r)
-  own_settled own = own_by r.taken refl own
-
 none_written : (d : Dfa) (s : Stream) (rows after : List StreamMatch) → Appends rows after 0 0 (stream_ends d s [])
 none_written d s rows after = record {
   count_is = let sizes : length (stream_ends d s []) ≡ 0 = ap length (ends_none d s) in omega (arith, sizes);
@@ -300,26 +286,6 @@ last_of d v id Dead x = absurd x
 last_of d v id (Failed b) x = absurd x
 last_of d v id Closed x = absurd x
 
-pub no_last : (d : Dfa) (v : CacheValue) (p : Point) → IsLast d v p None → last_at d p ≡ []
-no_last d v Fresh x = x
-no_last d v (Within s) x = x
-no_last d v Dead x = refl
-no_last d v (Failed b) x = refl
-no_last d v Closed x = refl
-
-pub closed_ok : (d : Dfa) (s : Stream) (rows after : List StreamMatch) (count : ℕ) → IsOpenPoint s.point →
-    Appends rows after 0 count (map (stream_end s.offset) (last_at d s.point)) →
-    IsStreamClosed d s (record { point = Closed; offset = s.offset }) rows after count (Ok tt)
-closed_ok d s rows after count o x = record {
-  stream = refl;
-  ends = x;
-  not_closed = o;
-  none = tt;
-  lacks = λ e. let never : true ≡ false = cc in absurd (true≢false never);
-  same = tt;
-  err = tt;
-}
-
 pub not_no_room : (d : Dfa) (s t : Stream) (n : ℕ) (e : StreamError) → IsStreamError d s t n e → e ≢ NoRoom
 not_no_room d s t n e x is = subst (λ (y : StreamError). IsStreamError d s t n y) is x
 
@@ -342,42 +308,3 @@ closed_not d s rows after e x = record {
   same = refl;
   err = inr x;
 }
-
-last_none : (d : Dfa) (ends : List StreamMatch) (room count : ℕ) (e : StreamError) → IsLastError d ends room count e → e ≢ NoRoom → count ≡ 0
-last_none d ends room count NoRoom x n = absurd (n refl)
-last_none d ends room count (Quit b i) x n = absurd x
-last_none d ends room count ClosedError x n = absurd x
-last_none d ends room count GaveUp x n = x.0
-last_none d ends room count NoMemory x n = x
-last_none d ends room count TooLong x n = absurd x
-
-last_error : (d : Dfa) (s : Stream) (ends : List StreamMatch) (room count : ℕ) (e : StreamError) → IsLastError d ends room count e →
-    (e ≡ NoRoom) ⊎ IsStreamError d s s 0 e
-last_error d s ends room count NoRoom x = inl refl
-last_error d s ends room count (Quit b i) x = absurd x
-last_error d s ends room count ClosedError x = absurd x
-last_error d s ends room count GaveUp x = inr x.1
-last_error d s ends room count NoMemory x = inr tt
-last_error d s ends room count TooLong x = absurd x
-
-pub closed_err : (d : Dfa) (s : Stream) (rows after : List StreamMatch) (count : ℕ) (e : StreamError) →
-    IsLastError d (map (stream_end s.offset) (last_at d s.point)) (length rows) count e → IsStreamClosed d s s rows after count (Err e)
-closed_err d s rows after count e x = record {
-  stream = tt;
-  ends = tt;
-  not_closed = tt;
-  none = last_none d (map (stream_end s.offset) (last_at d s.point)) (length rows) count e x;
-  lacks = λ is. subst (λ (y : StreamError). IsLastError d (map (stream_end s.offset) (last_at d s.point)) (length rows) count y)
-      (err_same e NoRoom is) x;
-  same = refl;
-  err = last_error d s (map (stream_end s.offset) (last_at d s.point)) (length rows) count e x;
-}
-
--- a step that fails at the end of the input
-pub step_last : (d : Dfa) (ends : List StreamMatch) (room : ℕ) (e : StreamError) → IsStepError d e → IsLastError d ends room 0 e
-step_last d ends room (Quit b i) x = absurd x
-step_last d ends room ClosedError x = absurd x
-step_last d ends room GaveUp x = (refl, x)
-step_last d ends room NoMemory x = refl
-step_last d ends room NoRoom x = absurd x
-step_last d ends room TooLong x = absurd x

@@ -6,7 +6,7 @@ use Rattle.determinize_core.specs.States.{StateValue}
 use Rattle.lazy_dfa.specs.Caches.{CacheValue, HeldAt, fits, has_no_room, is_clear_denied, row_holding}
 use Rattle.lazy_dfa.specs.ConfigValue.{clears_of, minimum_bytes_of}
 use Rattle.lazy_dfa.specs.Dfas.{Dfa, after, is_dead}
-use Rattle.lazy_dfa.specs.Steps.{IsCause, IsStepCause}
+use Rattle.lazy_dfa.specs.Steps.{IsStepCause}
 use Rattle.lazy_dfa.specs.declared.cache_error.CacheError.{CacheError}
 use Rattle.lazy_dfa.specs.declared.cache_error.CacheError.TheVariants.{GaveUp, NoMemory}
 
@@ -27,7 +27,3 @@ pub step_limit : (d : Dfa) (v : CacheValue) (id : ℕ) (u : Option ℕ) (s : Sta
     IsStepCause d v id u e → clears_of d.options ≢ None
 step_limit d v id u s e is h (inl f) = absurd (gave_up_is (sym is ∙ f))
 step_limit d v id u s e is h (inr g) = limit_is_set d v (after d s u) (g.1.lacks s h)
-
-pub state_limit : (d : Dfa) (v : CacheValue) (s : StateValue) (e : CacheError) → e ≡ GaveUp → IsCause d v s e → clears_of d.options ≢ None
-state_limit d v s e is (inl f) = absurd (gave_up_is (sym is ∙ f))
-state_limit d v s e is (inr g) = limit_is_set d v s g.1

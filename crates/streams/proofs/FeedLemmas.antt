@@ -1,5 +1,5 @@
 -- Where a stream reads on, and what its calls make of what was read.
-use Rattle.std.proofs.Common.{◌≡◌, [], ℕ, true, false, Some, None, refl, ap}
+use Rattle.std.proofs.Common.{◌≡◌, ℕ, true, false, Some, None, refl, ap}
 use Rattle.determinize_core.specs.States.{StateValue}
 use Rattle.lazy_dfa.specs.Caches.{CacheValue, HeldAt, IsCacheOf, IsRow, IsShaped, Leads}
 use Rattle.lazy_dfa.specs.Dfas.{Dfa, after, is_dead}
@@ -20,38 +20,7 @@ module _ (d : Dfa) (v : CacheValue) (id : ℕ) (shape : IsShaped v) where
   dead_entered (Failed b) t n = absurd n
   dead_entered Closed t n = absurd n
 
-  pub alive_entered : (p : Point) → has_tag dead_tag id ≡ false → IsNamed d v p (Some id) → IsEntered d v p (Some id)
-  alive_entered Fresh t n = alive_named v id (first_state_of d) shape t n
-  alive_entered (Within s) t n = alive_named v id s shape t n
-  alive_entered Dead t n = absurd n
-  alive_entered (Failed b) t n = absurd n
-  alive_entered Closed t n = absurd n
-
-  pub alive_row : (p : Point) → has_tag dead_tag id ≡ false → IsNamed d v p (Some id) → IsRow v id
-  alive_row Fresh t n = row_of v id (first_state_of d) (alive_named v id (first_state_of d) shape t n)
-  alive_row (Within s) t n = row_of v id s (alive_named v id s shape t n)
-  alive_row Dead t n = absurd n
-  alive_row (Failed b) t n = absurd n
-  alive_row Closed t n = absurd n
-
-pub none_entered : (d : Dfa) (v : CacheValue) (p : Point) → IsNamed d v p None → IsEntered d v p None
-none_entered d v Fresh n = absurd n
-none_entered d v (Within s) n = absurd n
-none_entered d v Dead n = tt
-none_entered d v (Failed b) n = tt
-none_entered d v Closed n = tt
-
 -- ---- the end of the input
-
-patterns_of : (d : Dfa) (s : StateValue) → is_dead s ≡ true → last_patterns d s ≡ []
-patterns_of d s e = rw e refl
-
-pub none_last : (d : Dfa) (v : CacheValue) (p : Point) → IsEntered d v p None → IsLast d v p None
-none_last d v Fresh e = patterns_of d (first_state_of d) e
-none_last d v (Within s) e = patterns_of d s e
-none_last d v Dead e = tt
-none_last d v (Failed b) e = tt
-none_last d v Closed e = tt
 
 patterns_there : (d : Dfa) (s : StateValue) → is_dead s ≡ false → (after d s None).matches ≡ [] → last_patterns d s ≡ []
 patterns_there d s alive none = rw alive none

@@ -1,13 +1,13 @@
 -- What the tags of an ID show about the state that it names.
-use Rattle.std.proofs.Common.{◌≡◌, ◌≢◌, ◌∙◌, ◌+◌, ◌*◌, ◌/◌, ◌%◌, ◌<◌, ◌≤◌, [], ◌∷◌, ℕ, Bool, true, false, List, Option, Some, refl, sym, ap}
-use Rattle.std.proofs.Common.{subst, arith, true≢false, ⊎_elim}
+use Rattle.std.proofs.Common.{◌≡◌, ◌≢◌, ◌∙◌, ◌+◌, ◌*◌, ◌/◌, ◌%◌, ◌<◌, ◌≤◌, ◌∷◌, ℕ, Bool, true, false, List, Option, Some, refl, sym, ap}
+use Rattle.std.proofs.Common.{arith, true≢false, ⊎_elim}
 use Rattle.std.specs.Prelude.{◌&&◌, ◌==◌, not, nat_le}
 use Rattle.std.proofs.lemmas.Bool.{and_parts, eqb-true, leb-true, not-true}
 use Rattle.std.proofs.lemmas.Bool.Decides.{leb_tells}
 use Rattle.determinize_core.specs.StateBytes.{is_match}
 use Rattle.determinize_core.specs.States.{StateValue, dead}
 use Rattle.lazy_dfa.specs.Caches.{CacheValue, HeldAt, IsCacheOf, IsRow, IsShaped, Leads, Names, names_dead, names_held, state_at}
-use Rattle.lazy_dfa.specs.Dfas.{Dfa, IsDfa, IsStateOf, after, class_of, is_dead, is_empty}
+use Rattle.lazy_dfa.specs.Dfas.{Dfa, IsDfa, after, class_of, is_dead, is_empty}
 use Rattle.lazy_dfa.specs.Ids.{dead_tag, has_tag, quit_tag, tag, tagged, unknown_id}
 use Rattle.lazy_dfa.specs.Readers.{is_quit}
 use Rattle.lazy_dfa.specs.Steps.{noted}
@@ -37,9 +37,6 @@ alive_by true s e n = absurd (n (dead_is s e))
 
 pub held_alive : (d : Dfa) (v : CacheValue) (id : ℕ) (s : StateValue) → IsCacheOf d v → HeldAt v id s → is_dead s ≡ false
 held_alive d v id s own h = alive_by (is_dead s) s refl (λ e. own.lives h.0 h.1 (sym h.3 ∙ e))
-
-pub held_is_state : (d : Dfa) (v : CacheValue) (id : ℕ) (s : StateValue) → IsCacheOf d v → HeldAt v id s → IsStateOf d s
-held_is_state d v id s own h = subst (IsStateOf d) (sym h.3) (own.states h.0 h.1)
 
 pub row_of : (v : CacheValue) (id : ℕ) (s : StateValue) → HeldAt v id s → IsRow v id
 row_of v id s h = (h.0, h.1, h.2)

@@ -1,5 +1,5 @@
 -- A haystack with its matches replaced, and its pieces between matches, match by match. `find_from` finds the first match from an offset on.
-use Rattle.std.proofs.Common.{◌≡◌, ℕ, zero, suc, ◌+◌, ◌-◌, ◌<◌, ◌≤◌, ◌==◌, min, Bool, true, false, List, [], ◌∷◌, ◌++◌, Option, Some, None, take, drop, length, slice_range, if◌then◌else◌, refl, sym, ap, ap₂, ◌∙◌, ⊎_elim, arith, append_assoc}
+use Rattle.std.proofs.Common.{◌≡◌, ℕ, zero, suc, ◌+◌, ◌-◌, ◌<◌, ◌≤◌, ◌==◌, min, Bool, true, false, List, ◌∷◌, ◌++◌, Option, Some, None, take, drop, length, slice_range, if◌then◌else◌, refl, sym, ap, ap₂, ◌∙◌, ⊎_elim, arith, append_assoc}
 use Rattle.std.proofs.lemmas.Bool.{cases_lt}
 use Rattle.std.specs.Option.{unwrap_or}
 use Rattle.regex_hir.specs.Find.{Match, find_after, matches_from}
@@ -81,14 +81,6 @@ module _ (find_from : ℕ → Option Match) where
       pub output : out ++ replaced_by written h (unwrap_or last 0) (matches_from find_from (total - count) (comes last))
           ≡ old ++ replaced_by written h 0 (matches_from find_from total (find_from 0))
       pub counted : count + length (matches_from find_from (total - count) (comes last)) ≡ length (matches_from find_from total (find_from 0))
-
-    pub replacing_begins : (total : ℕ) (old : List ℕ) → IsReplacedSoFar total old old 0 None
-    replacing_begins total old =
-        let all : total - 0 ≡ total = omega arith in
-        record {
-          output = ap (λ n. old ++ replaced_by written h 0 (matches_from find_from n (find_from 0))) all;
-          counted = let none : (n : ℕ) → 0 + n ≡ n = λ n. omega arith in none _ ∙ ap (λ n. length (matches_from find_from n (find_from 0))) all;
-        }
 
     pub replacing_goes_on : (total : ℕ) (old out new : List ℕ) (count : ℕ) (last : Option ℕ) (m : Match) →
         IsReplacedSoFar total old out count last → count < total → comes last ≡ Some m →

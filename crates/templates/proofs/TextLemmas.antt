@@ -1,6 +1,5 @@
 -- What pieces write, and which groups they read.
-use Rattle.std.proofs.Common.{IfSome, arith, ap₂, ◌≡◌, ℕ, ◌+◌, ◌*◌, ◌≤◌, ◌==◌, ◌||◌, ◌≢◌, if◌then◌else◌, ne_eqb, Bool, true, false, List, [], ◌∷◌, ◌++◌, Option, Some, None, drop, length, slice_range, refl, sym, ap, ◌∙◌, append_assoc, append-nil}
-use Rattle.std.proofs.lemmas.Grind.{flat_map-append}
+use Rattle.std.proofs.Common.{IfSome, arith, ap₂, ◌≡◌, ℕ, ◌+◌, ◌*◌, ◌≤◌, ◌==◌, ◌||◌, ◌≢◌, if◌then◌else◌, ne_eqb, Bool, true, false, List, ◌∷◌, ◌++◌, Option, Some, None, drop, length, slice_range, refl, sym, ap, ◌∙◌, append_assoc, append-nil}
 use Rattle.std.proofs.lemmas.List.{drop_all, get_or_past}
 use Rattle.regex_syntax.specs.Grammar.{Names}
 use Rattle.regex.specs.Templates.{written_after}
@@ -9,7 +8,7 @@ use Rattle.templates.specs.declared.template.Piece.{Piece}
 use Rattle.templates.specs.declared.template.Piece.TheVariants.{Literal, Group}
 use Rattle.regex.specs.Replace.{bytes_of}
 use Rattle.templates.specs.Slots.{slot_in, span_in, group_in}
-use Rattle.templates.specs.Expansion.{piece_text, pieces_text, text_or_none, greater, greatest_group}
+use Rattle.templates.specs.Expansion.{pieces_text, text_or_none, greater, greatest_group}
 use Rattle.templates.specs.Reading.{IsStep, AreReadFrom}
 
 -- ---- pieces that are read
@@ -40,14 +39,7 @@ pub read_whole : (names : Names) (t : List ℕ) (at : ℕ) (pieces : List Piece)
 read_whole names t at pieces le h group_text =
     sym (append-nil _) ∙ ap (λ xs. pieces_text group_text pieces ++ xs) (sym (nothing_left names group_text t at le)) ∙ h group_text
 
-pub one_more_piece : (group_text : ℕ → List ℕ) (pieces : List Piece) (piece : Piece) →
-    pieces_text group_text (pieces ++ piece ∷ []) ≡ pieces_text group_text pieces ++ piece_text group_text piece
-one_more_piece group_text pieces piece =
-    flat_map-append (piece_text group_text) pieces (piece ∷ []) ∙ ap (λ xs. pieces_text group_text pieces ++ xs) (append-nil _)
-
 -- ---- slots
-none_first : (h : List ℕ) (s : ℕ × ℕ) (b : Bool) → bytes_of h (if true || b then None else Some s) ≡ []
-none_first h s b = refl
 
 none_second : (h : List ℕ) (s : ℕ × ℕ) (a : Bool) → bytes_of h (if a || true then None else Some s) ≡ []
 none_second h s true = refl

@@ -1,15 +1,13 @@
 -- How many bytes caches are counted to need.
-use Rattle.std.proofs.Common.{◌≡◌, ℕ, zero, suc, ◌+◌, ◌*◌, ◌^◌, ◌<◌, ◌≤◌, Bool, true, false, List, [], ◌∷◌, ◌++◌, length, sym}
+use Rattle.std.proofs.Common.{◌≡◌, ℕ, zero, suc, ◌+◌, ◌*◌, ◌^◌, ◌<◌, ◌≤◌, Bool, List, ◌∷◌, ◌++◌, length, sym}
 use Rattle.std.proofs.Common.{ap, ◌∙◌, ⊎_elim, arith, if◌then◌else◌}
 use Rattle.std.proofs.lemmas.Bool.{cases_lt}
 use Rattle.std.proofs.lemmas.Bool.Decides.{leb_tells}
-use Rattle.std.proofs.Math.Nat.{pow-succ', le-max_right}
+use Rattle.std.proofs.Math.Nat.{pow-succ'}
 use Rattle.search_core.specs.Classes.{IsLeastExponent}
 use Rattle.determinize_core.specs.States.{StateValue}
 use Rattle.determinize_core.specs.StateBytes.{encoded}
 use Rattle.lazy_dfa.specs.Accounting.{Measures, power_from, state_cost, states_cost, measured_usage}
-use Rattle.lazy_dfa.specs.Accounting.{least_capacity}
-use Rattle.lazy_dfa.specs.Accounting.{effective_capacity}
 
 -- ---- powers of two
 
@@ -62,7 +60,3 @@ pub usage_of_more : (m : Measures) (held : List StateValue) (v : StateValue) →
 usage_of_more m held v = let rest = costs_of_more m.stride held v in omega (arith, rest)
 
 -- ---- capacities
-
-pub raised : (m : Measures) (skips : Bool) (given : ℕ) → given ≤ effective_capacity m skips given
-raised m true given = le-max_right (least_capacity m) given
-raised m false given = omega arith

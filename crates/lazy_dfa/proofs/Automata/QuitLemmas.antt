@@ -1,5 +1,5 @@
 -- Sets of bytes that are made or read byte by byte.
-use Rattle.std.proofs.Common.{◌≡◌, ◌≢◌, ℕ, zero, suc, ◌+◌, ◌-◌, ◌<◌, ◌≤◌, Bool, true, false, ◌||◌, ◌&&◌, List, [], ◌∷◌, length, get_or, set}
+use Rattle.std.proofs.Common.{◌≡◌, ◌≢◌, ℕ, zero, suc, ◌+◌, ◌-◌, ◌<◌, ◌≤◌, Bool, true, false, ◌||◌, ◌&&◌, List, ◌∷◌, length, get_or, set}
 use Rattle.std.proofs.Common.{map, nat_le, refl, sym, ap, ◌∙◌, ⊎_elim, arith, length-set, get_or-set_same, get_or-set_other}
 use Rattle.std.proofs.lemmas.Bool.{cases_eq, le-leb, or_right}
 use Rattle.std.proofs.lemmas.Bool.Decides.{leb_tells}
@@ -79,13 +79,6 @@ all_from set n = list_all (has set) (range_with_len n (256 - n))
 
 pub all_here : (set : List Bool) (n : ℕ) → n < 256 → has set n ≡ true → all_from set n ≡ all_from set (n + 1)
 all_here set n small e =
-    ap (λ (m : ℕ). list_all (has set) (range_with_len n m)) (more n small) ∙ ap (λ (b : Bool). b && all_from set (n + 1)) e
-  where
-    more : (n : ℕ) → n < 256 → 256 - n ≡ suc (256 - (n + 1))
-    more n l = omega (arith, l)
-
-pub none_here : (set : List Bool) (n : ℕ) → n < 256 → has set n ≡ false → all_from set n ≡ false
-none_here set n small e =
     ap (λ (m : ℕ). list_all (has set) (range_with_len n m)) (more n small) ∙ ap (λ (b : Bool). b && all_from set (n + 1)) e
   where
     more : (n : ℕ) → n < 256 → 256 - n ≡ suc (256 - (n + 1))

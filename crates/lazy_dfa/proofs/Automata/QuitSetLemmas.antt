@@ -12,12 +12,6 @@ use Rattle.lazy_dfa.specs.Quits.{has_unicode_word, with_high_bytes, has_high_byt
 
 -- ---- tests of ranges
 
-pub all_of_range : (p : ℕ → Bool) (a n : ℕ) → ((b : ℕ) → a ≤ b → b < a + n → p b ≡ true) → list_all p (range_with_len a n) ≡ true
-all_of_range p a zero all = refl
-all_of_range p a (suc n) all =
-    ap (λ (x : Bool). x && list_all p (range_with_len (a + 1) n)) (all a (omega arith) (omega arith))
-    ∙ all_of_range p (a + 1) n (λ b from to. all b (omega (arith, from)) (omega (arith, to)))
-
 pub some_of_range : (p : ℕ → Bool) (a n : ℕ) → list_all p (range_with_len a n) ≡ false →
     (b : ℕ) × (a ≤ b) × (b < a + n) × (p b ≡ false)
 some_of_range p a zero none = let never : true ≡ false = none in absurd (grind (arith, never))
@@ -53,10 +47,6 @@ module _ (set : List Bool) where
   unfolding with_high_bytes
   high_len = length-map-range_with_len is_in 0 256
 
-  pub all_high : ((b : ℕ) → 0x80 ≤ b → b < 256 → has set b ≡ true) → has_high_bytes set ≡ true
-  unfolding has_high_bytes
-  all_high all = all_of_range (has set) 0x80 128 (λ b from to. all b from (omega (arith, to)))
-
   pub not_all_high : has_high_bytes set ≡ false → (b : ℕ) × (0x80 ≤ b) × (b < 256) × (has set b ≡ false)
   unfolding has_high_bytes
   not_all_high none = let b = some_of_range (has set) 0x80 128 none in let to = b.2 in (b.0, b.1, omega (arith, to), b.3)
@@ -90,10 +80,6 @@ module _ (a : Automaton) (boundaries : Bool) (set : List Bool) where
 
   pub quits_len : length set ≡ 256 → length (quit_bytes a boundaries set) ≡ 256
   quits_len e = either is_wide (with_high_bytes set) set (λ (s : List Bool). length s ≡ 256) (λ wide. high_len set) (λ plain. e)
-
-not_both : (x y : Bool) → x ≡ false → (x && y) ≡ false
-not_both false y e = refl
-not_both true y e = let never : true ≡ false = e in absurd (grind (arith, never))
 
 and_off : (x : Bool) → (x && false) ≡ false
 and_off true = refl

@@ -1,23 +1,22 @@
 -- What calls change in a cache: nothing, one more state, one more step, or all but two states.
-use Rattle.std.proofs.Common.{◌≡◌, ◌≢◌, ℕ, ◌+◌, ◌%◌, ◌/◌, ◌-◌, ◌<◌, ◌≤◌, Bool, true, false, ◌⊎◌, List, [], ◌∷◌, ◌*◌, length, get_or, set}
+use Rattle.std.proofs.Common.{◌≡◌, ◌≢◌, ℕ, ◌+◌, ◌%◌, ◌/◌, ◌-◌, ◌<◌, ◌≤◌, Bool, true, false, ◌⊎◌, List, ◌∷◌, ◌*◌, length, get_or, set}
 use Rattle.std.proofs.Common.{replicate, refl, sym, ap, ◌∙◌, subst, inl, inr, ⊎_elim, arith, true≢false, Option, Some}
 use Rattle.std.proofs.Common.{get_or-set_same, get_or-set_other}
 use Rattle.std.proofs.lemmas.Bool.{cases_lt, cases_eq, cases_Bool}
 use Rattle.std.proofs.lemmas.Bool.Decides.{leb_tells}
-use Rattle.std.specs.Prelude.{nat_le, not, ◌&&◌}
+use Rattle.std.specs.Prelude.{nat_le}
 use Rattle.std.proofs.Math.Nat.{mod-eq_of_lt}
 use Rattle.std.proofs.lemmas.Slice.Eq.{bytes_eq-Decides}
 use lib.ListN.{get_or-append}
 use Rattle.determinize_core.specs.StateBytes.{encoded, is_match}
-use Rattle.determinize_core.specs.States.{StateValue, dead}
-use Rattle.lazy_dfa.specs.ConfigValue.{clears_of, minimum_bytes_of}
+use Rattle.determinize_core.specs.States.{StateValue}
 use Rattle.lazy_dfa.specs.Readers.{is_quit}
 use Rattle.lazy_dfa.specs.Dfas.{Dfa, IsDfa, IsUnit, after, class_of}
 use Rattle.lazy_dfa.specs.Ids.{tag, unknown_id, is_sentinel, tagged, has_tag, start_tag}
 use Rattle.lazy_dfa.specs.Caches.{CacheValue, IsShaped, IsCacheOf, Leads, Names, names_dead, names_held, HeldAt, IsRow, same}
-use Rattle.lazy_dfa.specs.Caches.{state_at, id_at, cell_at, with_state, cleared, fits, is_clear_denied, needs_clear, has_no_room}
+use Rattle.lazy_dfa.specs.Caches.{state_at, id_at, cell_at, with_state, cleared, needs_clear, has_no_room}
 use Rattle.lazy_dfa.specs.Steps.{Added, Grew, WasCleared, ClearedFrom, kept_alone, MadeRoom, AddsOrClears, KeepsOrClears}
-use Rattle.lazy_dfa.specs.Steps.{noted, IsKnown, IsNoted, GivesUp, StepNeedsClear, IsCause, IsStepCause}
+use Rattle.lazy_dfa.specs.Steps.{noted, IsNoted, GivesUp, StepNeedsClear, IsCause, IsStepCause}
 use Rattle.lazy_dfa.specs.declared.cache_error.CacheError.{CacheError}
 use Rattle.lazy_dfa.specs.declared.cache_error.CacheError.TheVariants.{GaveUp, NoMemory}
 use Rattle.lazy_dfa.proofs.CacheChanges.ListLemmas.{one_longer}
@@ -306,26 +305,6 @@ grew_of d v mid made own changes = ⊎_elim
 
 -- ---- failures
 
-abbrev refuses : Bool → Bool → Bool → Bool → Bool
-refuses dead new fitting refused = not dead && (new && (not fitting && refused))
-
-no_dead : (x y z w : Bool) → x ≡ true → refuses x y z w ≡ false
-no_dead true y z w e = refl
-no_dead false y z w e = absurd (true≢false (sym e))
-
-no_refusal : (x y z w : Bool) → w ≡ false → refuses x y z w ≡ false
-no_refusal true y z w e = refl
-no_refusal false false z w e = refl
-no_refusal false true true w e = refl
-no_refusal false true false w e = e
-
-module _ (d : Dfa) (v : CacheValue) (s : StateValue) where
-  abbrev fitting : Bool
-  fitting = fits d.capacity s v
-
-  abbrev refused : Bool
-  refused = is_clear_denied (clears_of d.options) (minimum_bytes_of d.options) v
-
 -- why a step failed, and that a step that was made has no such cause
 module _ (d : Dfa) (v mid : CacheValue) (id k : ℕ) (u : Option ℕ) (s : StateValue) (shape : IsShaped v) (same_cache : mid ≡ v)
     (inside : k < length v.states) (row : id ≡ id_at v k) (value : s ≡ after d (state_at v k) u) where
@@ -364,9 +343,6 @@ module _ (d : Dfa) (v mid : CacheValue) (id k : ℕ) (u : Option ℕ) (s : State
 
 -- ---- what is known about a step
 
-known_sentinel : (id : ℕ) → is_sentinel id ≡ true → is_sentinel id ≡ false → ⊥
-known_sentinel id e f = true≢false (sym e ∙ f)
-
 -- a sentinel is no ID of a row
 pub no_row : (v : CacheValue) (id : ℕ) → IsShaped v → is_sentinel id ≡ true → IsRow v id → ⊥
 no_row v id i e x = let l = row_is_plain v id x.0 i x.1 x.2 in let g = le_of 0x2000_0000 id e in omega (arith, l, g)
@@ -379,10 +355,6 @@ module _ (d : Dfa) (v : CacheValue) (id c cell : ℕ) (u : Option ℕ) (made : I
 
   pub unknown_here : IsRow v id → nat_le unknown_id cell ≡ true → noted d v id u ≡ unknown_id
   unknown_here x e = unknown_of d v made own u unit id cell x noted_read e
-
-  pub not_known : IsRow v id → nat_le unknown_id cell ≡ true → is_sentinel id ≡ false → IsKnown d v id u → ⊥
-  not_known x e plain (inl f) = known_sentinel id f plain
-  not_known x e plain (inr n) = n (unknown_here x e)
 
   pub known_cell : nat_le unknown_id cell ≡ false → noted d v id u ≢ unknown_id
   known_cell e f = let l = lt_of unknown_id cell e in let g = noted_read in omega (arith, l, f, g)

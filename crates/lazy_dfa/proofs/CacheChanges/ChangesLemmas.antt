@@ -1,5 +1,5 @@
 -- Changes of a cache one after the other, and the changes of one step.
-use Rattle.std.proofs.Common.{◌≡◌, ◌⊎◌, ℕ, suc, ◌+◌, ◌≤◌, Bool, false, List, refl, sym, ap, ◌∙◌, subst, inl, inr, arith, [], ◌∷◌, ◌++◌}
+use Rattle.std.proofs.Common.{◌≡◌, ◌⊎◌, ℕ, suc, ◌+◌, ◌≤◌, Bool, false, List, refl, sym, ap, ◌∙◌, subst, inl, inr, arith, ◌∷◌, ◌++◌}
 use Rattle.std.proofs.Common.{Option, Some, None}
 use Rattle.nfa_core.specs.Ways.{offset_of}
 use Rattle.determinize_core.specs.States.{StateValue}
@@ -47,9 +47,6 @@ module _ (d : Dfa) (P : Bool → Option StateValue → StateValue → Type 0) (v
       adds b o s mid w (m + i) k (omega (arith, l, lt)) (changes_on u m before mid i (m + i) (omega arith) c) own made g a
   changes_on u m before _ _ k l (clears b from s mid w i n lt c own made x) =
       clears b from s mid w (m + i) k (omega (arith, l, lt)) (changes_on u m before mid i (m + i) (omega arith) c) own made x
-
-  pub changes_same : (w : CacheValue) (n : ℕ) → w ≡ v → Changes d P v w n
-  changes_same w n e = unchanged w n e
 
 moved_states : (v w : CacheValue) → IsMoved v w → HasStatesOf w v
 moved_states v w e = (ap (λ (x : CacheValue). x.states) e, ap (λ (x : CacheValue). x.ids) e, ap (λ (x : CacheValue). x.clears) e)

@@ -189,9 +189,6 @@ module _ (d : Dfa) (v w : CacheValue) (e : IsMoved v w) where
       subst (λ (x : ℕ). IsLinkedOver d w h i x (scan_len_of (reader d) mode earliest h n i)) (sym same)
       (linked_moved h i (start_noted d v c) (scan_len_of (reader d) mode earliest h n i) (linked q none named))
 
-  pub are_linked_moved : (q : Search) (ps : List (ℕ × ℕ)) → AreLinked d v q ps → AreLinked d w q ps
-  are_linked_moved q ps all k p l = linked_pass_moved q.anchored q.earliest q.haystack (get_or ps k p).0 (get_or ps k p).1 (all k p l)
-
 -- ---- units
 
 abbrev pub AreBytes : List ℕ → Type 0

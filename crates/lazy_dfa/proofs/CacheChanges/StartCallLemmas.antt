@@ -1,7 +1,7 @@
 -- The results of start calls, by their modes.
-use Rattle.std.proofs.Common.{◌≡◌, ℕ, zero, suc, ◌+◌, ◌*◌, ◌<◌, ◌≤◌, ◌≢◌, ◌⊎◌, Bool, true, false, List, [], ◌∷◌, length, get_or, refl, sym}
-use Rattle.std.proofs.Common.{ap, ◌∙◌, subst, inl, inr, ⊎_elim, arith, Option, Some, None, true≢false, Result, Ok, Err}
-use Rattle.std.specs.Prelude.{slice_get, if◌then◌else◌, MatchOption, ⊤}
+use Rattle.std.proofs.Common.{◌≡◌, ℕ, zero, suc, ◌+◌, ◌*◌, ◌<◌, ◌≤◌, ◌≢◌, ◌⊎◌, Bool, true, false, List, ◌∷◌, length, get_or, refl, sym}
+use Rattle.std.proofs.Common.{ap, ◌∙◌, subst, inl, inr, ⊎_elim, arith, Option, Some, None, true≢false, Result, Ok}
+use Rattle.std.specs.Prelude.{slice_get, if◌then◌else◌, MatchOption}
 use Rattle.search_types.specs.declared.anchored.Anchored.{Anchored}
 use Rattle.search_types.specs.declared.anchored.Anchored.TheVariants.{No, Yes, Pattern}
 use Rattle.determinize_core.specs.Starts.{StartValue, start_of}
@@ -150,21 +150,6 @@ module _ (d : Dfa) (c : StartValue) (n q : ℕ) (s : Start) (named : Some q ≡ 
       let lacks = subst (λ (o : Option ℕ). MatchOption o ⊥ (λ r. has_no_room d old (start_first d c r) ≡ true)) (sym named) gives.lacks in
       let none = h (ap (λ (i : ℕ). get_or old.starts i 0) same_slot ∙ gives.unknown) in
       true≢false (sym lacks ∙ (sym (ap (λ (t : Start). has_no_room d old (first_state d t q)) is) ∙ none))
-
--- what is rejected, and what isn't
-pub refusal_is : (d : Dfa) (c : StartValue) (r : Option StartError) (o : Option ℕ) (m : Anchored) (x : Option StartError) → r ≡ x →
-    r ≡ rejected_by_byte d o (rejected_mode d m) → o ≡ c.look_behind → m ≡ c.anchored →
-    rejected_start d c ≡ x
-refusal_is d c r o m x is e f g =
-    ap (λ (o : Option ℕ). rejected_by_byte d o (rejected_mode d c.anchored)) (sym f)
-    ∙ (ap (λ (m : Anchored). rejected_by_byte d o (rejected_mode d m)) (sym g) ∙ (sym e ∙ is))
-
-pub none_refused : (o : Option StartError) (r : Result ℕ StartError) → o ≡ None → MatchOption o ⊤ (λ e. r ≡ Err e)
-none_refused o r e = subst (λ (x : Option StartError). MatchOption x ⊤ (λ y. r ≡ Err y)) (sym e) tt
-
-pub one_refused : (o : Option StartError) (e : StartError) (r : Result ℕ StartError) → o ≡ Some e → r ≡ Err e →
-    MatchOption o ⊤ (λ y. r ≡ Err y)
-one_refused o e r f g = subst (λ (x : Option StartError). MatchOption x ⊤ (λ y. r ≡ Err y)) (sym f) g
 
 pub not_none : {X : Type 0} (o : Option X) (x : X) → o ≡ Some x → o ≡ None → ⊥
 not_none o x f g = let h : Some x ≡ None = sym f ∙ g in absurd cc

@@ -52,11 +52,6 @@ pub next_within : (is_reverse : Bool) (q : Search) (i j : ℕ) → IsWithinSpan 
 next_within false q i j w n e = (omega (arith, w.0, w.1, n, e), omega (arith, w.0, w.1, n, e))
 next_within true q i j w n e = (omega (arith, w.0, w.1, n, e), omega (arith, w.0, w.1, n, e))
 
-pub next_closer : (is_reverse : Bool) (q : Search) (i j k : ℕ) → IsWithinSpan q i → i ≢ last_offset is_reverse q →
-    j ≡ offset_of is_reverse i 1 → left_at is_reverse q k ≤ left_at is_reverse q j → left_at is_reverse q k < left_at is_reverse q i
-next_closer false q i j k w n e l = omega (arith, w.0, w.1, n, e, l)
-next_closer true q i j k w n e l = omega (arith, w.0, w.1, n, e, l)
-
 came_inside : (is_reverse : Bool) (q : Search) (i : ℕ) → IsWithinSpan q i → came is_reverse q i ≤ span_len q
 came_inside false q i w = omega (arith, w.0, w.1)
 came_inside true q i w = omega (arith, w.0, w.1)
@@ -333,8 +328,3 @@ module _ (d : Dfa) (q : Search) (is_reverse : Bool) (p : Point) (v : CacheValue)
 
   pub within_next : is_reverse ≡ rev → IsWithinSpan q p.at → TurnsInto d q p v m n next false → IsWithinSpan q next.at
   within_next is w t = next_within rev q p.at next.at w t.2 t.1
-
-  pub closer_next : (k : ℕ) → is_reverse ≡ rev → IsWithinSpan q p.at → TurnsInto d q p v m n next false →
-      left_at is_reverse q k ≤ left_at is_reverse q next.at → left_at is_reverse q k < left_at is_reverse q p.at
-  closer_next k is w t l = next_closer is_reverse q p.at next.at k w (λ e. t.2 (e ∙ ap (λ (x : Bool). last_offset x q) is)) (t.1
-      ∙ ap (λ (x : Bool). offset_of x p.at 1) (sym is)) l

@@ -17,7 +17,7 @@ use Rattle.lazy_dfa.specs.Courses.{state_after, best_after}
 use Rattle.lazy_dfa.specs.declared.progress.Progress.{Progress}
 use Rattle.lazy_dfa.specs.Dfas.{Dfa, IsDfa, IsUnit, after, reader}
 use Rattle.lazy_dfa.specs.Ids.{tag, tagged, unknown_id, is_sentinel}
-use Rattle.lazy_dfa.specs.Linked.{led, id_after, IsLinkedOver, CacheGrows, HasCleared, IsMoved}
+use Rattle.lazy_dfa.specs.Linked.{led, id_after, IsLinkedOver, CacheGrows, HasCleared}
 use Rattle.lazy_dfa.specs.ScanLaws.{unit_of}
 use Rattle.lazy_dfa.specs.Scans.{best_recorded, is_dead}
 use Rattle.lazy_dfa.specs.Points.{Point, began, Follows, IsFree, GoesTo, point}
@@ -25,7 +25,7 @@ use Rattle.lazy_dfa.specs.Readers.{is_quit}
 use Rattle.lazy_dfa.specs.Steps.{IsHeld, StepsTo, Grew, WasCleared, KeepsOrClears, noted, IsKnown, IsNoted, StepAdds, most_inserts}
 use Rattle.lazy_dfa.proofs.CacheChanges.AddsLemmas.{step_adds_none}
 use Rattle.lazy_dfa.proofs.CacheChanges.ChangeLemmas.{same_grew, grew_refl, one_state}
-use Rattle.lazy_dfa.proofs.CacheChanges.ChangesLemmas.{changes_into, changes_on, changes_moved, made_before, made_behind, step_changes}
+use Rattle.lazy_dfa.proofs.CacheChanges.ChangesLemmas.{changes_into, changes_on, made_before, made_behind, step_changes}
 use Rattle.lazy_dfa.proofs.Courses.CourseLemmas.{state_there, best_there, read_there, state_behind_one, best_behind_one, read_one, not_dead}
 use Rattle.lazy_dfa.proofs.Courses.CourseLemmas.{unmatched}
 use Rattle.lazy_dfa.proofs.CacheChanges.IsCacheLemmas.{row_is_plain, le_of}
@@ -81,37 +81,6 @@ module _ (d : Dfa) (h : List ℕ) where
     determinized = omega arith;
     inserted = omega arith;
     changes = λ s named. unchanged p.cache 0 refl;
-  }
-
-  -- a scan also goes to a cache that differs only in its progress
-  pub goes_moved : (a : Point) (v w : CacheValue) (m n at id k : ℕ) (best : Option (ℕ × ℕ)) → IsMoved v w → w.searched ≡ v.searched →
-      began w.progress ≡ began v.progress →
-      (IsSome v.progress → IsSome w.progress) → GoesTo d h a (point v m n at id best) k → GoesTo d h a (point w m n at id best) k
-  goes_moved a v w m n at id k best e searched begins runs g = record {
-    place = g.place;
-    names = λ s named. names_moved d v w e id (state_after (reader d) h a.at s k) (g.names s named);
-    read = g.read;
-    best = g.best;
-    kept = ⊎_elim
-        (λ (f : Follows d h a (point v m n at id best) k). inl (record {
-          grows = grows_on f.grows;
-          leads = id_moved d v w e h a.at a.id k ∙ f.leads;
-          linked = linked_moved d v w e h a.at a.id k f.linked;
-          searched = searched ∙ f.searched;
-          began = begins ∙ f.began;
-        }))
-        (λ (x : HasCleared a.cache v). inr (subst (λ (n : ℕ). min (a.cache.clears + 1) greatest ≤ n) (sym (grows_moved d v w e).clears) x))
-        g.kept;
-    free = λ l. let f = g.free l in record {
-      moved = moved_trans a.cache v w f.moved e;
-      leads = f.leads;
-      determinized = f.determinized;
-      inserted = f.inserted;
-    };
-    running = λ r. runs (g.running r);
-    determinized = g.determinized;
-    inserted = g.inserted;
-    changes = λ s named. changes_moved d (IsMadeAt (reader d) h a.at s k) a.cache v w k e (g.changes s named);
   }
     where
       grows_on : CacheGrows d a.cache v → CacheGrows d a.cache w

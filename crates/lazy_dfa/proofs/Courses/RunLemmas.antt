@@ -84,9 +84,6 @@ module _ (d : Dfa) (h : List ℕ) (a : Point) (w : CacheValue) (c : Point) (k : 
   abbrev kept_as : CacheValue
   kept_as = as_told a.cache c.cache
 
-  back : IsMoved w a.cache
-  back = sym (ap (λ (x : CacheValue). as_told a.cache x) e)
-
   grows_as : CacheGrows d w c.cache → CacheGrows d a.cache kept_as
   grows_as f = record {
     names = λ i s n. names_moved d c.cache kept_as refl i s (f.names i s (names_moved d a.cache w e i s n));

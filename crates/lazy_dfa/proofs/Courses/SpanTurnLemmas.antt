@@ -446,9 +446,6 @@ module _ (d : Dfa) (q : Search) (is_reverse : Bool) (same : is_reverse ≡ d.nfa
     pub some_kept : IsSome v1.progress → turn ≡ Quits → IsSome v2.progress
     some_kept r e = (seen_as Quits e).1 r
 
-    pub some_unless : IsSome v1.progress → (turn ≡ Quits → ⊥) → IsSome v2.progress
-    some_unless r never = (goes_unless turn never (seen_as turn refl)).0.running r
-
     -- by a byte after which the scan goes on
     pub byte_goes : (index next : ℕ) → v1 ≡ record v0 { progress = moved_to index v0.progress } → next ≡ offset_of is_reverse at 1 →
         at ≢ last_offset is_reverse q → Turned false false v2 → turn ≡ GoesOn →

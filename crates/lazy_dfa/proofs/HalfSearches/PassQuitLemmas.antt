@@ -316,10 +316,6 @@ module _ (r : Reader) (mode : Anchored) (earliest : Bool) (h : List ℕ) (n i : 
       let o = none_finds r earliest h (suc n) i begun None all in
       (o.0, goes_on r.quits back back_index rest none ∙ goes_in_mode is_fit mode from_start fit ∙ o.1)
 
-  -- the mode is reported if it isn't supported, and only then
-  pub mode_is_told : is_fit ≡ false → HasNoQuitBefore r h i → scan r mode earliest h n i ≡ unsupported mode
-  mode_is_told unfit none = goes_on r.quits back back_index rest none ∙ ap (λ (b : Bool). if_supported b mode from_start) unfit
-
   pub told_is_mode : (m : Anchored) → scan r mode earliest h n i ≡ unsupported m →
       (m ≡ mode) × (is_fit ≡ false) × HasNoQuitBefore r h i
   told_is_mode m e =

@@ -14,10 +14,10 @@ use Rattle.nfa_core.specs.Ways.{span, offset_of, bytes_left, ends_from}
 use Rattle.lazy_dfa.specs.Readers.{Reader, HalfAnswer, found, quit, unsupported}
 use Rattle.lazy_dfa.specs.Scans.{next_offset, start_name, scan}
 use Rattle.lazy_dfa.specs.HalfSearches.{unless_split, rescans, first_offset, begun_at, half_search}
-use Rattle.lazy_dfa.specs.ScanLaws.{HasNoQuitBefore, splits, scan_of}
+use Rattle.lazy_dfa.specs.ScanLaws.{splits, scan_of}
 use Rattle.lazy_dfa.specs.HalfSearchLaws.{IsWanted, Splits, IsOfScans, HasNoQuitNear, IsQuitNear}
 use Rattle.lazy_dfa.proofs.HalfSearches.TurnLemmas.{found_no_quit, found_no_mode}
-use Rattle.lazy_dfa.proofs.HalfSearches.PassQuitLemmas.{mode_is_told, told_is_mode}
+use Rattle.lazy_dfa.proofs.HalfSearches.PassQuitLemmas.{told_is_mode}
 use Rattle.lazy_dfa.proofs.HalfSearches.PassLemmas.{pass_finds_first, pass_finds_last}
 use Rattle.lazy_dfa.proofs.HalfSearches.NearestLemmas.{pass_finds_nearest}
 use Rattle.lazy_dfa.proofs.HalfSearches.RestartLemmas.{whole_stays, split_goes, later_first, later_next}
@@ -197,25 +197,6 @@ module _ (r : Reader) (q : Search) where
 
   abbrev is_fit : Bool
   is_fit = is_supported r.starts_for_each_pattern q.anchored
-
-  stays : (m : Anchored) (other : HalfAnswer) → one_pass ≡ unsupported m →
-      unless_split (counts r.between_characters q.haystack) one_pass other ≡ unsupported m
-  stays m other e = ap (λ (a : HalfAnswer). unless_split (counts r.between_characters q.haystack) a other) e
-
-  passes_stay : (m : Anchored) (k : ℕ) → scan r q.anchored q.earliest q.haystack k i ≡ unsupported m →
-      rescans r q.anchored q.earliest q.haystack k i ≡ unsupported m
-  passes_stay m zero e = ap (λ (a : HalfAnswer). unless_split (counts r.between_characters q.haystack) a (found None)) e
-  passes_stay m (suc k) e =
-      ap (λ (a : HalfAnswer). unless_split (counts r.between_characters q.haystack) a
-      (rescans r q.anchored q.earliest q.haystack k (next_offset r i))) e
-
-  pub scan_tells_mode : q.start ≤ q.end → is_fit ≡ false → HasNoQuitBefore r q.haystack i → half_search r q ≡ unsupported q.anchored
-  scan_tells_mode l unfit none =
-      let reported : one_pass ≡ unsupported q.anchored = mode_is_told r q.anchored q.earliest q.haystack n i unfit none in
-      ⊎_elim
-      (λ (a : is_anchored q.anchored ≡ true). scan_anchored l a ∙ stays q.anchored (found None) reported)
-      (λ (a : is_anchored q.anchored ≡ false). scan_unanchored l a ∙ passes_stay q.anchored n reported)
-      (cases_Bool (is_anchored q.anchored))
 
   abbrev IsTold : Anchored → Type 0
   IsTold m = (m ≡ q.anchored) × (is_fit ≡ false)

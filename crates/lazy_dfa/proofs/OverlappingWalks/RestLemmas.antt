@@ -1,5 +1,5 @@
 -- What is left of an overlapping search, turn by turn: how it begins and reads on, its errors, and where the ends lie that it reports.
-use Rattle.std.proofs.Common.{◌≡◌, ℕ, zero, suc, ◌-◌, ◌<◌, ◌≤◌, Bool, true, false, List, [], ◌∷◌, map, Option, Some, None, if◌then◌else◌}
+use Rattle.std.proofs.Common.{◌≡◌, ℕ, zero, suc, ◌-◌, ◌<◌, ◌≤◌, Bool, true, false, List, ◌∷◌, map, Option, Some, None, if◌then◌else◌}
 use Rattle.std.proofs.Common.{refl, sym, ap, ◌∙◌, ◌⊎◌, inl, inr, ⊎_elim, subst, arith}
 use Rattle.std.proofs.lemmas.Bool.{cases_Bool, le-leb}
 use Rattle.search_core.specs.ByteSets.{has}
@@ -127,13 +127,6 @@ module _ (r : Reader) (q : Search) where
 
   mode_fits : is_supported r.starts_for_each_pattern q.anchored ≡ true → in_mode ≡ from_start
   mode_fits fit = ap (λ (b : Bool). if b then from_start else refused (UnsupportedAnchored q.anchored)) fit
-
-  pub rest_unfit : q.start ≤ q.end → is_supported r.starts_for_each_pattern q.anchored ≡ false →
-      HasNoQuitBefore r q.haystack (begins_at r q) → whole_rest r q ≡ refused (UnsupportedAnchored q.anchored)
-  rest_unfit l unfit none = rest_begun l
-      ∙ past_other r.quits (unit_before r.automaton.reverse q.haystack (begins_at r q))
-      (index_before_offset r.automaton.reverse (begins_at r q)) in_mode none
-      ∙ mode_told unfit
 
   begun : q.start ≤ q.end →
       AtUnit r.quits (unit_before r.automaton.reverse q.haystack (begins_at r q)) (index_before_offset r.automaton.reverse (begins_at r q))

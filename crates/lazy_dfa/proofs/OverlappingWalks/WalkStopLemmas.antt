@@ -1,6 +1,6 @@
 -- Calls of an overlapping search that stopped at an end: it reports one more end there, nothing is left, or it reads on.
 use Rattle.std.proofs.Common.{◌≡◌, ◌≢◌, ℕ, ◌+◌, ◌<◌, ◌==◌, ◌||◌, not, Bool, true, false, List, ◌∷◌, length, drop, map, Some, None}
-use Rattle.std.proofs.Common.{if◌then◌else◌, refl, sym, ap, ◌∙◌, subst, inl, ⊎_elim, arith, true≢false, []}
+use Rattle.std.proofs.Common.{if◌then◌else◌, refl, sym, ap, ◌∙◌, subst, inl, ⊎_elim, arith, true≢false}
 use Rattle.std.specs.Prelude.{Result, slice_index}
 use Rattle.std.proofs.lemmas.Bool.{cases_Bool, eqb-true}
 use Rattle.search_types.specs.declared.match_error.MatchErrorKind.{MatchErrorKind}
@@ -14,7 +14,7 @@ use Rattle.lazy_dfa.specs.declared.overlapping_state.OverlappingPosition.TheVari
 use Rattle.lazy_dfa.specs.Dfas.{Dfa, IsDfa, reader}
 use Rattle.lazy_dfa.specs.SearchAnswers.{half_of}
 use Rattle.lazy_dfa.specs.Scans.{next_offset}
-use Rattle.lazy_dfa.specs.ScanOffsets.{came, last_offset, IsWithinSpan}
+use Rattle.lazy_dfa.specs.ScanOffsets.{came, last_offset}
 use Rattle.lazy_dfa.specs.Overlapping.{Rest, onto, others, end_of, rest_of, rest_past, value_past, StopsAt, CanContinue, OverlappingValue}
 use Rattle.lazy_dfa.specs.OverlappingAnswers.{without_id, stop_after, lists_more, result_left, ReportsNext, value_before, ReadsOn}
 use Rattle.lazy_dfa.specs.OverlappingAnswers.{MakesCall}
@@ -22,7 +22,7 @@ use Rattle.lazy_dfa.specs.OverlappingAnswers.{StartsQuietly, HasReadQuietly}
 use Rattle.lazy_dfa.specs.Changes.{unchanged}
 use Rattle.lazy_dfa.proofs.OverlappingWalks.WalkQuitLemmas.{came_next}
 use Rattle.lazy_dfa.proofs.CacheChanges.LinkedLemmas.{grows_refl}
-use Rattle.lazy_dfa.proofs.OverlappingWalks.WalkLeftLemmas.{next_within, past_last, past_value, past_rest, past_units, lists_none}
+use Rattle.lazy_dfa.proofs.OverlappingWalks.WalkLeftLemmas.{past_last, past_value, past_rest, past_units, lists_none}
 use Rattle.lazy_dfa.proofs.OverlappingWalks.WalkLeftLemmas.{lists_one}
 use Rattle.lazy_dfa.proofs.OverlappingWalks.WalkCallLemmas.{fine, ended, tells_none, still_call, makes_on, MakesIts}
 
@@ -105,9 +105,6 @@ module _ (d : Dfa) (q : Search) (v : CacheValue) (m n : ℕ) (stop : Stop) (made
     (apart : stop.at ≢ last_offset is_reverse q) where
   apart_so : stop.at ≢ last_offset d.nfa.automaton.reverse q
   apart_so = subst (λ (b : Bool). stop.at ≢ last_offset b q) is apart
-
-  pub resumes_within : IsWithinSpan q (offset_of is_reverse stop.at 1)
-  resumes_within = next_within is_reverse q stop.at stops.within apart
 
   pub resumes_held : HeldAt v stop.id (value_before (reader d) q (offset_of is_reverse stop.at 1))
   resumes_held = subst (λ (b : Bool). HeldAt v stop.id (value_before (reader d) q (offset_of b stop.at 1))) (sym is)

@@ -1,26 +1,23 @@
 -- What the calls of an overlapping search over a whole span report, one after the other. The ID at which the search stopped doesn't affect
 -- what it reports.
-use Rattle.std.proofs.Common.{◌≡◌, ℕ, suc, ◌+◌, ◌<◌, ◌≤◌, ◌&&◌, Bool, true, false, true≢false, List, None, refl, ap}
-use Rattle.std.proofs.Common.{◌∙◌, inl, inr, subst, if◌then◌else◌}
+use Rattle.std.proofs.Common.{◌≡◌, ℕ, suc, ◌+◌, ◌≤◌, true, false, true≢false, refl, ap}
+use Rattle.std.proofs.Common.{◌∙◌, inl, inr, subst}
 use Rattle.std.specs.Prelude.{Result, Ok, Err, min, ⊤}
-use Rattle.std.proofs.lemmas.Bool.{lt-leb}
 use Rattle.search_types.specs.declared.match_error.MatchErrorKind.{MatchErrorKind}
 use Rattle.search_types.specs.Inputs.{Search}
-use Rattle.search_types.specs.Modes.{is_supported}
-use Rattle.lazy_dfa.specs.Caches.{CacheValue, greatest, progress_len}
+use Rattle.lazy_dfa.specs.Caches.{CacheValue, greatest}
 use Rattle.lazy_dfa.specs.declared.overlapping_state.Stop.{Stop}
 use Rattle.lazy_dfa.specs.declared.overlapping_state.OverlappingPosition.{OverlappingPosition}
 use Rattle.lazy_dfa.specs.declared.overlapping_state.OverlappingPosition.TheVariants.{Fresh, Ended, Failed, Stopped}
 use Rattle.lazy_dfa.specs.Dfas.{Dfa, reader}
 use Rattle.lazy_dfa.specs.Linked.{HasCleared, GrowsOrClears}
 use Rattle.lazy_dfa.specs.Readers.{Reader}
-use Rattle.lazy_dfa.specs.ScanOffsets.{left_at}
-use Rattle.lazy_dfa.specs.SearchAnswers.{progress_of, ProgressValue, scan_distance}
+use Rattle.lazy_dfa.specs.SearchAnswers.{progress_of, ProgressValue}
 use Rattle.lazy_dfa.specs.OverlappingAnswers.{without_id, overlapping_after, overlapping_after_calls, progress_by_call, GivesUpOn, at_start}
 use Rattle.lazy_dfa.specs.OverlappingAnswers.{at_unit}
 use Rattle.lazy_dfa.specs.OverlappingAnswers.{LeavesCall, left_failed, left_at_start, left_at_unit, ReportsCallAnew, anew_at_start, anew_at}
 use Rattle.lazy_dfa.specs.OverlappingAnswers.{FailsCallAnew, fails_behind_start, fails_behind, IsCallReported, progress_last, told_before}
-use Rattle.lazy_dfa.specs.OverlappingAnswers.{left_last, left_before, IsReportedAfter, IsLeftAfter, call_offset, call_units}
+use Rattle.lazy_dfa.specs.OverlappingAnswers.{left_last, left_before, IsReportedAfter, IsLeftAfter}
 use Rattle.lazy_dfa.proofs.CacheChanges.LinkedLemmas.{cleared_grows}
 
 -- ---- without the ID
@@ -113,19 +110,6 @@ module _ (d : Dfa) (q : Search) (old now next : CacheValue) (w : OverlappingPosi
       by (inl s) (inr c) = inr (cleared_next c.0 s.1, left_last c.1)
       by (inr s) (inl c) = inr (cleared_grows d old now next s.0 kept, left_before (progress_of now) s.1 c.0)
       by (inr s) (inr c) = inr (cleared_grows d old now next s.0 kept, left_last c.1)
-
--- a done span has no call that reads
-module _ (r : Reader) (q : Search) (set : List Bool) (v : CacheValue) (past : q.end < q.start) where
-  abbrev read : ProgressValue
-  read = record {
-    searched = min (v.searched + progress_len v.progress +
-        scan_distance r.automaton.reverse (left_at r.automaton.reverse q (call_offset r q Fresh)) (call_units r q Fresh)) greatest;
-    progress = None;
-  }
-
-  nothing : progress_by_call r q Fresh (progress_of v) ≡ progress_of v
-  nothing = ap (λ (b : Bool). if b && is_supported r.starts_for_each_pattern q.anchored then read else progress_of v)
-      (lt-leb q.start q.end past)
 
 pub none_told : (r : Reader) (q : Search) (v : CacheValue) → IsReportedAfter r q 0 v v
 none_told r q v = inl (refl, refl)

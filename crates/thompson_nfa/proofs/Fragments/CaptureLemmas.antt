@@ -19,8 +19,7 @@ use Rattle.nfa_core.specs.declared.build_error.BuildError.{BuildError}
 use Rattle.nfa_core.specs.declared.build_error.BuildError.TheVariants as error
 use Rattle.thompson_nfa.specs.Compiled.{Finished, AllComeOut, IsTame, Makes, Does}
 use Rattle.thompson_nfa.specs.Added.{AddsDraft, Led}
-use Rattle.thompson_nfa.specs.Refusals.{FailsGroup, QuitsGroup, FailsFragment, FailsStep, Stays}
-use Rattle.thompson_nfa.specs.declared.which_captures.WhichCaptures.{WhichCaptures}
+use Rattle.thompson_nfa.specs.Refusals.{FailsGroup, QuitsGroup, FailsStep}
 use Rattle.thompson_nfa.proofs.Steps.LookLemmas.{quiet_led, quiet_added, adds_around}
 use Rattle.thompson_nfa.proofs.Steps.SizeLemmas.{AddedAt, added_at, MadeAt, made_at, LedAt}
 use Rattle.thompson_nfa.proofs.Steps.OutLemmas.{out_here, all_here, all_join, all_on}
@@ -29,7 +28,6 @@ use Rattle.thompson_nfa.proofs.Steps.StepLemmas.{added_of, added_group, refused_
 use Rattle.thompson_nfa.proofs.Steps.NotedLemmas.{group_in, known_of_in, known_group}
 use Rattle.thompson_nfa.proofs.Steps.ByteLemmas.{group_bytes}
 use Rattle.thompson_nfa.proofs.Steps.ProgressLemmas.{Progress, first_added, then_added, then_made, then_led, made}
-use Rattle.thompson_nfa.proofs.Steps.ProgressLemmas.{then_quits, refuses}
 use Rattle.thompson_nfa.proofs.Fragments.RepeatLemmas.{reads_as}
 use Rattle.thompson_nfa.proofs.Walks.AheadLemmas.{denotes_capture, denotes_capture_plain}
 use Rattle.thompson_nfa.proofs.Steps.RoomLemmas.{numbered}
@@ -164,11 +162,6 @@ module _ {t0 t1 : Assembly} {a index : ℕ} (name : Option Name)
       with_lead : {t4 : Assembly} → Led t3 t4 a s → Progress false t0 t4 (1 + n + 1) 3996
       with_lead led = then_led 3996 with_end led (omega (arith, first.is)) (omega (arith, body.fragment.start_there, last.size))
           (omega arith)
-
-      pub lead_refused : {new : Assembly} {err : BuildError} (kept : WhichCaptures) (shown : Option Name) (x : Tree) →
-          Stays t3 new 0 4 err → FailsFragment kept t0 new (n + 2) (capture index shown x) err
-      lead_refused kept shown x r = refuses kept (n + 2) (capture index shown x)
-          (then_quits (n + 2) with_end r (omega arith) (omega arith)) (omega arith)
 
 module _ (t0 t1 t2 t3 t4 t5 : Assembly) (a s e z n index pattern : ℕ) (name : Option Name)
     (first : AddsDraft t0 t1 a (capture_start_draft (length t0.starts) index 0) (with_group t0.groups (length t0.starts) index name))
