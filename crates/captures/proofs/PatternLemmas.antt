@@ -1,5 +1,5 @@
 -- The groups of patterns, one by one.
-use Rattle.std.proofs.Common.{◌≡◌, ◌≢◌, ◌⊎◌, ⊎_elim, ℕ, zero, suc, ◌+◌, ◌^◌, ◌<◌, ◌≤◌, List, ◌∷◌, ◌++◌, length, map, drop, slice_get, slice_set, chars, Option, Some, None, IsSomeAnd, IfSome, Bor, is_some, true, refl, sym, ap, ◌∙◌, subst, arith, append_assoc, append-nil}
+use Rattle.std.proofs.Common.{◌≡◌, ◌≢◌, ◌⊎◌, ⊎_elim, ℕ, zero, suc, ◌+◌, ◌^◌, ◌<◌, ◌≤◌, List, ◌∷◌, ◌++◌, length, map, drop, slice_get, slice_set, chars, Option, Some, None, IsSomeAnd, IfSome, Bor, is_some, true, refl, sym, ap, ◌∙◌, subst, arith, append_assoc, append-nil, []}
 use Rattle.std.proofs.lemmas.Bool.{cases_lt}
 use Rattle.std.proofs.lemmas.Option.{none-some, same_Some, slice_get_within}
 use Rattle.regex_syntax.specs.Grammar.{Names, read}

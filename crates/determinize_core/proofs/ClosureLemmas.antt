@@ -1,5 +1,5 @@
 -- The depth-first search with a stack over the states of an automaton, where some looks are known to hold.
-use Rattle.std.proofs.Common.{◌≡◌, ℕ, zero, suc, ◌+◌, ◌<◌, ◌≤◌, true, false, Bool, List, ◌∷◌, ◌++◌}
+use Rattle.std.proofs.Common.{◌≡◌, ℕ, zero, suc, ◌+◌, ◌<◌, ◌≤◌, true, false, Bool, List, ◌∷◌, ◌++◌, []}
 use Rattle.std.proofs.Common.{length, drop, refl, sym, ap, ◌∙◌, arith, subst}
 use Rattle.std.proofs.Common.{cond, Some, None, append_assoc, append-nil, length-append, not, get_or, length-drop, ◌-◌, ⊎_elim, take}
 use Rattle.std.proofs.lemmas.Bool.{cases_Bool}

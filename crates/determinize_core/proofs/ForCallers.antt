@@ -14,7 +14,7 @@ pub use Rattle.determinize_core.proofs.SteppedLemmas.{step_stepped, start_steppe
 pub use Rattle.determinize_core.proofs.AlikeLemmas.{units_step_alike, units_start_alike}
 -- The parts of what starts and steps lead to, one by one. From the dead state each step leads to it, and so does a step that leads to no
 -- match and no state. Under leftmost-first a step lists one match at most.
-pub use Rattle.determinize_core.proofs.StepLawLemmas.{step_below, step_once, start_below, start_once, comes_to_none, few_matches}
+pub use Rattle.determinize_core.proofs.StepLawLemmas.{step_below, step_once, start_below, start_once, comes_to_none}
 pub use Rattle.determinize_core.proofs.StepStateLemmas.{step_state, start_state}
 -- a state that a step leads to has states below the bound and none twice, also through an equation
 pub use Rattle.determinize_core.proofs.WalkingLemmas.{behind_below, behind_once}

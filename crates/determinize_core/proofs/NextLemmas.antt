@@ -1,5 +1,5 @@
 -- The parts of which a step of powerset states is made.
-use Rattle.std.proofs.Common.{◌≡◌, ℕ, ◌≤◌, ◌==◌, true, false, not, Bool, List, length, Option, ◌&&◌, ◌||◌, sym, ap, ◌∙◌, cond}
+use Rattle.std.proofs.Common.{◌≡◌, ℕ, ◌≤◌, ◌==◌, true, false, not, Bool, List, length, Option, ◌&&◌, ◌||◌, sym, ap, ◌∙◌, cond, []}
 use Rattle.std.proofs.Common.{All, ◌<◌, subst}
 use Rattle.std.specs.Bool.{nat_eq}
 use Rattle.std.specs.Int.Bits.{and_zero_r}

@@ -1,5 +1,5 @@
 -- Where the bytes of a powerset state have its patterns and its states.
-use Rattle.std.proofs.Common.{◌≡◌, ℕ, zero, suc, ◌+◌, ◌-◌, ◌*◌, ◌^◌, ◌<◌, ◌≤◌, Bool, true, List, ◌∷◌, ◌++◌, length, take, drop}
+use Rattle.std.proofs.Common.{◌≡◌, ℕ, zero, suc, ◌+◌, ◌-◌, ◌*◌, ◌^◌, ◌<◌, ◌≤◌, Bool, true, List, ◌∷◌, ◌++◌, length, take, drop, []}
 use Rattle.std.proofs.Common.{get_or, sym, ap, ◌∙◌, arith, length-append, length-drop, nat_lt, nat_le, ◌||◌, subst}
 use Rattle.std.specs.Prelude.{All, slice_index}
 use Rattle.std.specs.Int.{w32, from_le_bytes}

@@ -1,5 +1,5 @@
 -- Laws of steps.
-use Rattle.std.proofs.Common.{◌≡◌, ℕ, ◌<◌, true, false, Bool, ◌&&◌, List, ◌∷◌, length, Option, refl, ap, ◌∙◌}
+use Rattle.std.proofs.Common.{◌≡◌, ℕ, ◌<◌, true, false, Bool, ◌&&◌, List, ◌∷◌, length, Option, refl, ap, ◌∙◌, []}
 use Rattle.std.proofs.Common.{cond, All, ⊎_elim}
 use Rattle.std.proofs.lemmas.Bool.{cases_Bool}
 use Rattle.std.specs.Bool.{nat_eq}

@@ -1,5 +1,5 @@
 -- Lines without any of the literals have no match.
-use Rattle.std.proofs.Common.{◌≡◌, ◌≤◌, ◌<◌, inl, inr, ℕ, zero, suc, ◌-◌, true, false, List, ◌∷◌, All, length, slice_get, slice_range}
+use Rattle.std.proofs.Common.{◌≡◌, ◌≤◌, ◌<◌, inl, inr, ℕ, zero, suc, ◌-◌, true, false, List, ◌∷◌, All, length, slice_get, slice_range, []}
 use Rattle.std.proofs.Common.{Some, None, true≢false, refl, sym, subst, arith}
 use Rattle.std.proofs.lemmas.Bool.{cases_lt}
 use Rattle.std.proofs.lemmas.Option.{none-some, same_Some}

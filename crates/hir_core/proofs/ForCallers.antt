@@ -28,7 +28,7 @@ pub use Rattle.hir_core.proofs.LookFactLemmas.{prefix_sound, suffix_sound}
 pub use Rattle.hir_core.proofs.PartLemmas.{weight_in_concat, weight_of_either}
 -- ---- what meaning depends on
 -- a span with bytes, of a UTF-8 tree in valid UTF-8, starts and ends at boundaries
-pub use Rattle.hir_core.proofs.BoundedSpanLemmas.{spans_bounded, span_start_bounded, span_end_bounded}
+pub use Rattle.hir_core.proofs.BoundedSpanLemmas.{span_start_bounded, span_end_bounded}
 -- ends depend on the looks from the start on
 pub use Rattle.hir_core.proofs.LocalLookLemmas.{same_ends_from}
 -- in a haystack cut at e, ends depend on the looks between the start and e, and so do the spans up to e

@@ -12,7 +12,7 @@ pub use Rattle.lazy_dfa.proofs.HalfSearches.AnewLemmas.{again, last_pass}
 -- A quit byte that ends a search lies in the span or next to it. If none lies there and the mode is supported, the search succeeds.
 pub use Rattle.lazy_dfa.proofs.HalfSearches.ScanLemmas.{scan_quits_near, scan_finds_near}
 -- which unsupported modes are reported
-pub use Rattle.lazy_dfa.proofs.HalfSearches.ScanLemmas.{scan_tells_mode, scan_mode_told}
+pub use Rattle.lazy_dfa.proofs.HalfSearches.ScanLemmas.{scan_mode_told}
 -- starts for each pattern affect a search only by which modes are supported
 pub use Rattle.lazy_dfa.proofs.Automata.SupportLemmas.{scan_by_support}
 -- An answer depends only on its reach. The reach has no quit byte, contains the offset that is found, and lies in the span or next to it.
@@ -36,7 +36,7 @@ pub use Rattle.lazy_dfa.proofs.OverlappingWalks.WalkEndLemmas.{rest_before_quit}
 -- exist.
 pub use Rattle.lazy_dfa.proofs.OverlappingWalks.RestLemmas.{rest_in_span, rest_done, rest_of_no_pattern}
 -- the errors of an overlapping search, and when it has none
-pub use Rattle.lazy_dfa.proofs.OverlappingWalks.RestLemmas.{refusal_is, quit_is_near, rest_unfit, quiet_goes}
+pub use Rattle.lazy_dfa.proofs.OverlappingWalks.RestLemmas.{refusal_is, quit_is_near, quiet_goes}
 -- an overlapping search can go on in a cache that wasn't cleared
 pub use Rattle.lazy_dfa.proofs.OverlappingWalks.WalkGoesOnLemmas.{walk_kept, walk_counted}
 -- the patterns of all ends, and no others, are added to a set that has room for them

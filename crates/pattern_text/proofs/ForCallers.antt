@@ -4,8 +4,7 @@
 pub use Rattle.pattern_text.proofs.TranslatedLemmas.{same_ends, same_spans, keeps_names, is_text, height_at_most}
 -- its equations, one for each kind of node
 pub use Rattle.pattern_text.proofs.TranslatedLemmas.{translated-Empty, translated-Literal, translated-Bytes, translated-Chars}
-pub use Rattle.pattern_text.proofs.TranslatedLemmas.{translated-Look, translated-Repetition, translated-Capture, translated-Concat}
-pub use Rattle.pattern_text.proofs.TranslatedLemmas.{translated-Alternation}
+pub use Rattle.pattern_text.proofs.TranslatedLemmas.{translated-Look, translated-Repetition, translated-Capture}
 -- parts that agree make wholes that do
 pub use Rattle.pattern_text.proofs.SameEndsLemmas.{same_cat, same_alt, same_group}
 pub use Rattle.pattern_text.proofs.LoopLemmas.{same_repetition}

@@ -1,5 +1,5 @@
 -- The equations of `translated`, one for each variant, and what holds of the tree of every pattern.
-use Rattle.std.proofs.Common.{◌≡◌, ℕ, ◌+◌, ◌≤◌, min, max, nat_le, nat_lt, Bool, true, false, ◌&&◌, List, ◌∷◌, ◌++◌, map, Option}
+use Rattle.std.proofs.Common.{◌≡◌, ℕ, ◌+◌, ◌≤◌, min, max, nat_le, nat_lt, Bool, true, false, ◌&&◌, List, ◌∷◌, ◌++◌, map, Option, []}
 use Rattle.std.proofs.Common.{option_map, Vec, Box, Global, refl, sym, ap, ◌∙◌, subst, arith, if◌then◌else◌, le-leb, lt-ltb}
 use Rattle.std.proofs.lemmas.Bool.{and_from, or_left, or_right}
 use Rattle.std.proofs.lemmas.Str.{is_utf8-from_IsUtf8}

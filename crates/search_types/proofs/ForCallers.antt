@@ -5,9 +5,8 @@ pub use Rattle.search_types.proofs.ModeLemmas.{starts_at}
 -- the computed answer is the leftmost
 pub use Rattle.search_types.proofs.AnswerLemmas.{computed_is_answer}
 -- the list of all answers by the steps of a loop that writes it: one more is written, no more is answered, none is asked for
-pub use Rattle.search_types.proofs.AllAnswersLemmas.{answer_written, answers_done, none_asked}
+pub use Rattle.search_types.proofs.AllAnswersLemmas.{answer_written, answers_done}
 -- no answer ends past the end
-pub use Rattle.search_types.proofs.AllAnswersLemmas.{next_within}
 -- ends rise, spans lie between the start and the end, and a greater bound makes the list no longer
 pub use Rattle.search_types.proofs.AllAnswersLemmas.{ends_rise, spans_within, no_answer_is_cut_off}
 -- answers that are taken one after the other are the list of all answers, or a beginning of it

@@ -1,5 +1,5 @@
 -- What the calls of a stream make of what was read.
-use Rattle.std.proofs.Common.{◌≡◌, ◌≢◌, ◌⊎◌, ◌∙◌, ◌+◌, ◌<◌, ◌++◌, ◌==◌, ◌∷◌, ℕ, zero, suc, Bool, true, false, List, Option, Some, None}
+use Rattle.std.proofs.Common.{◌≡◌, ◌≢◌, ◌⊎◌, ◌∙◌, ◌+◌, ◌<◌, ◌++◌, ◌==◌, ◌∷◌, ℕ, zero, suc, Bool, true, false, List, Option, Some, None, []}
 use Rattle.std.proofs.Common.{length, length-take-le, take, refl, sym, ap, subst, arith, inl, inr, true≢false, if◌then◌else◌}
 use Rattle.std.specs.Prelude.{Err, IfErr, IfOk, IfSome, Ok, Result, ⊤}
 use Rattle.std.proofs.lemmas.Bool.{eqb-true}

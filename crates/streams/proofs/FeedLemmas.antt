@@ -1,5 +1,5 @@
 -- Where a stream reads on, and what its calls make of what was read.
-use Rattle.std.proofs.Common.{◌≡◌, ℕ, true, false, Some, None, refl, ap}
+use Rattle.std.proofs.Common.{◌≡◌, ℕ, true, false, Some, None, refl, ap, []}
 use Rattle.determinize_core.specs.States.{StateValue}
 use Rattle.lazy_dfa.specs.Caches.{CacheValue, HeldAt, IsCacheOf, IsRow, IsShaped, Leads}
 use Rattle.lazy_dfa.specs.Dfas.{Dfa, after, is_dead}

@@ -6,4 +6,4 @@ pub use Rattle.templates.proofs.SlotLemmas.{group_text_of}
 pub use Rattle.templates.proofs.TextLemmas.{same_texts}
 -- a haystack with its matches replaced, match by match
 pub use Rattle.templates.proofs.MatchLemmas.{taken, first_matches, comes, no_more, none_left, one_more}
-pub use Rattle.templates.proofs.MatchLemmas.{IsReplacedSoFar, replacing_begins, replacing_goes_on, replacing_ends}
+pub use Rattle.templates.proofs.MatchLemmas.{IsReplacedSoFar, replacing_goes_on, replacing_ends}

@@ -1,5 +1,5 @@
 -- A haystack with its matches replaced, and its pieces between matches, match by match. `find_from` finds the first match from an offset on.
-use Rattle.std.proofs.Common.{◌≡◌, ℕ, zero, suc, ◌+◌, ◌-◌, ◌<◌, ◌≤◌, ◌==◌, min, Bool, true, false, List, ◌∷◌, ◌++◌, Option, Some, None, take, drop, length, slice_range, if◌then◌else◌, refl, sym, ap, ap₂, ◌∙◌, ⊎_elim, arith, append_assoc}
+use Rattle.std.proofs.Common.{◌≡◌, ℕ, zero, suc, ◌+◌, ◌-◌, ◌<◌, ◌≤◌, ◌==◌, min, Bool, true, false, List, ◌∷◌, ◌++◌, Option, Some, None, take, drop, length, slice_range, if◌then◌else◌, refl, sym, ap, ap₂, ◌∙◌, ⊎_elim, arith, append_assoc, []}
 use Rattle.std.proofs.lemmas.Bool.{cases_lt}
 use Rattle.std.specs.Option.{unwrap_or}
 use Rattle.regex_hir.specs.Find.{Match, find_after, matches_from}

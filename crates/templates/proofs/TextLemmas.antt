@@ -1,5 +1,5 @@
 -- What pieces write, and which groups they read.
-use Rattle.std.proofs.Common.{IfSome, arith, ap₂, ◌≡◌, ℕ, ◌+◌, ◌*◌, ◌≤◌, ◌==◌, ◌||◌, ◌≢◌, if◌then◌else◌, ne_eqb, Bool, true, false, List, ◌∷◌, ◌++◌, Option, Some, None, drop, length, slice_range, refl, sym, ap, ◌∙◌, append_assoc, append-nil}
+use Rattle.std.proofs.Common.{IfSome, arith, ap₂, ◌≡◌, ℕ, ◌+◌, ◌*◌, ◌≤◌, ◌==◌, ◌||◌, ◌≢◌, if◌then◌else◌, ne_eqb, Bool, true, false, List, ◌∷◌, ◌++◌, Option, Some, None, drop, length, slice_range, refl, sym, ap, ◌∙◌, append_assoc, append-nil, []}
 use Rattle.std.proofs.lemmas.List.{drop_all, get_or_past}
 use Rattle.regex_syntax.specs.Grammar.{Names}
 use Rattle.regex.specs.Templates.{written_after}

@@ -1,5 +1,5 @@
 -- Changes of a cache one after the other, and the changes of one step.
-use Rattle.std.proofs.Common.{◌≡◌, ◌⊎◌, ℕ, suc, ◌+◌, ◌≤◌, Bool, false, List, refl, sym, ap, ◌∙◌, subst, inl, inr, arith, ◌∷◌, ◌++◌}
+use Rattle.std.proofs.Common.{◌≡◌, ◌⊎◌, ℕ, suc, ◌+◌, ◌≤◌, Bool, false, List, refl, sym, ap, ◌∙◌, subst, inl, inr, arith, ◌∷◌, ◌++◌, []}
 use Rattle.std.proofs.Common.{Option, Some, None}
 use Rattle.nfa_core.specs.Ways.{offset_of}
 use Rattle.determinize_core.specs.States.{StateValue}

@@ -1,5 +1,5 @@
 -- The results of start calls, by their modes.
-use Rattle.std.proofs.Common.{◌≡◌, ℕ, zero, suc, ◌+◌, ◌*◌, ◌<◌, ◌≤◌, ◌≢◌, ◌⊎◌, Bool, true, false, List, ◌∷◌, length, get_or, refl, sym}
+use Rattle.std.proofs.Common.{◌≡◌, ℕ, zero, suc, ◌+◌, ◌*◌, ◌<◌, ◌≤◌, ◌≢◌, ◌⊎◌, Bool, true, false, List, ◌∷◌, length, get_or, refl, sym, []}
 use Rattle.std.proofs.Common.{ap, ◌∙◌, subst, inl, inr, ⊎_elim, arith, Option, Some, None, true≢false, Result, Ok}
 use Rattle.std.specs.Prelude.{slice_get, if◌then◌else◌, MatchOption}
 use Rattle.search_types.specs.declared.anchored.Anchored.{Anchored}

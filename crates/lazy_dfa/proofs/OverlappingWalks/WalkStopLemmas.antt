@@ -1,5 +1,5 @@
 -- Calls of an overlapping search that stopped at an end: it reports one more end there, nothing is left, or it reads on.
-use Rattle.std.proofs.Common.{◌≡◌, ◌≢◌, ℕ, ◌+◌, ◌<◌, ◌==◌, ◌||◌, not, Bool, true, false, List, ◌∷◌, length, drop, map, Some, None}
+use Rattle.std.proofs.Common.{◌≡◌, ◌≢◌, ℕ, ◌+◌, ◌<◌, ◌==◌, ◌||◌, not, Bool, true, false, List, ◌∷◌, length, drop, map, Some, None, []}
 use Rattle.std.proofs.Common.{if◌then◌else◌, refl, sym, ap, ◌∙◌, subst, inl, ⊎_elim, arith, true≢false}
 use Rattle.std.specs.Prelude.{Result, slice_index}
 use Rattle.std.proofs.lemmas.Bool.{cases_Bool, eqb-true}
