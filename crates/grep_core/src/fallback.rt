@@ -18,8 +18,12 @@ use regex_syntax::ErrorKind;
 use search_types::Span;
 use std::alloc::{AllocError, Global};
 
-/// The greatest size of a program in bytes.
-const SIZE_LIMIT: usize = 1 << 34;
+/// The greatest size in bytes of a program for a line in which the automata gave up.
+pub(crate) const SIZE_LIMIT: usize = 1 << 34;
+
+/// The greatest size in bytes of a program that is compiled before the automata are. These have at most 64 MiB of states each, and patterns
+/// that need more are rejected.
+pub(crate) const EARLY_SIZE_LIMIT: usize = 1 << 27;
 
 /// An expression tree, and the number of groups of its pattern, including group 0.
 #[derive(Drop)]
@@ -87,11 +91,12 @@ fn boxed(alloc: Global, program: Program) -> Result<Box<Program>, Fault>
     }
 }
 
-/// Compiles patterns into one program.
+/// Compiles patterns into one program of at most so many bytes.
 pub(crate) fn program_of(
     alloc: Global,
     how: &PatternOptions,
     texts: &[&str],
+    size_limit: usize,
 ) -> Result<Box<Program>, Fault>
     ensures { IfOk result (λ p. IsProgramOf how.now (map (λ t. t.now) texts.now) p.value) }
 {
@@ -102,7 +107,7 @@ pub(crate) fn program_of(
     let Ok(groups) = u32::try_from(trees.groups) else {
         return Err(Fault::TooLarge);
     };
-    let program = match Program::new(alloc, Hir::Alternation(trees.hirs), groups, SIZE_LIMIT) {
+    let program = match Program::new(alloc, Hir::Alternation(trees.hirs), groups, size_limit) {
         Ok(program) => program,
         Err(Error::OutOfMemory) => return Err(Fault::NoMemory),
         Err(_) => return Err(Fault::TooLarge),

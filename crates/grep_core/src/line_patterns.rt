@@ -5,7 +5,7 @@ ghost use Rattle.grep_core.specs.BoundedTrees.{IsTreeOf};
 ghost use Rattle.grep_core.specs.Fallbacks.{IsProgramOf};
 ghost use Rattle.grep_core.specs.Searchers.{IsSearcherError};
 
-use crate::fallback::program_of;
+use crate::fallback::{EARLY_SIZE_LIMIT, program_of};
 use crate::parsed_patterns::ParsedPatterns;
 use crate::patterns::PatternOptions;
 use crate::searcher::SearcherError;
@@ -17,7 +17,7 @@ use std::marker::Model;
 /// Patterns, how they are interpreted, the one tree of them, and a program of the toolchain for them.
 ///
 /// Finders of these patterns borrow the tree, so it is made once. The program searches the lines in which automata give up at a quit byte.
-/// It is compiled at once if that can happen, so that finders keep a searcher of it from line to line.
+/// It is compiled at once if that can happen and it has at most 128 MiB, so that finders keep a searcher of it from line to line.
 #[derive(Drop)]
 pub struct LinePatterns<'t> {
     parsed: ParsedPatterns<'t>,
@@ -58,7 +58,7 @@ fn program_at_once(alloc: Global, texts: &[&str], how: &PatternOptions) -> Optio
     ensures { IfSome result (λ p. IsProgramOf how.now (map (λ t. t.now) texts.now) p.value) }
 {
     if may_give_up(texts, how) {
-        program_of(alloc, how, texts).ok()
+        program_of(alloc, how, texts, EARLY_SIZE_LIMIT).ok()
     } else {
         None
     }

@@ -4,7 +4,9 @@ ghost use Rattle.grep_core.specs.Fallbacks.{IsProgramOf};
 ghost use Rattle.grep_core.specs.Printing.{span_pair};
 ghost use Rattle.grep_core.specs.Searchers.{IsMatchReported, AreReported};
 
-use crate::fallback::{all_matches, all_matches_anew, has_one, has_one_anew, program_of};
+use crate::fallback::{
+    SIZE_LIMIT, all_matches, all_matches_anew, has_one, has_one_anew, program_of,
+};
 use crate::fault::Fault;
 use crate::line_patterns::LinePatterns;
 use regex_meta::{Program, Searcher};
@@ -90,7 +92,8 @@ impl<'t> SlowSearch<'t> {
         if let Some(program) = self.program.take() {
             return Ok(program);
         }
-        let program = match program_of(alloc, &self.patterns.how(), self.patterns.texts()) {
+        let how = self.patterns.how();
+        let program = match program_of(alloc, &how, self.patterns.texts(), SIZE_LIMIT) {
             Ok(program) => program,
             Err(e) => return Err(e),
         };
