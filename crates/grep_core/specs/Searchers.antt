@@ -22,7 +22,7 @@ use Rattle.grep_core.specs.Patterns.{finds_of, has_match_in, spans_in}
 
 -- The settings for searching lines, which may be any bytes.
 abbrev pub line_settings : Settings
-line_settings = program_settings (record default_settings { utf8 = false })
+line_settings = record (program_settings (record default_settings { utf8 = false })) { size_limit = Some 62914560 }
 
 -- The settings for searching lines with caches of this capacity, or of the default capacity if there is none. The capacity changes no
 -- answer.

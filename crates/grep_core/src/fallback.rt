@@ -21,9 +21,9 @@ use std::alloc::{AllocError, Global};
 /// The greatest size in bytes of a program for a line in which the automata gave up.
 pub(crate) const SIZE_LIMIT: usize = 1 << 34;
 
-/// The greatest size in bytes of a program that is compiled before the automata are. These have at most 64 MiB of states each, and patterns
+/// The greatest size in bytes of a program that is compiled before the automata are. These take at most 60 MiB each, and patterns
 /// that need more are rejected.
-pub(crate) const EARLY_SIZE_LIMIT: usize = 1 << 27;
+pub(crate) const EARLY_SIZE_LIMIT: usize = 1 << 25;
 
 /// An expression tree, and the number of groups of its pattern, including group 0.
 #[derive(Drop)]

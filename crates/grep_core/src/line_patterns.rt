@@ -17,7 +17,7 @@ use std::marker::Model;
 /// Patterns, how they are interpreted, the one tree of them, and a program of the toolchain for them.
 ///
 /// Finders of these patterns borrow the tree, so it is made once. The program searches the lines in which automata give up at a quit byte.
-/// It is compiled at once if that can happen and it has at most 128 MiB, so that finders keep a searcher of it from line to line.
+/// It is compiled at once if that can happen and it has at most 32 MiB, so that finders keep a searcher of it from line to line.
 #[derive(Drop)]
 pub struct LinePatterns<'t> {
     parsed: ParsedPatterns<'t>,

@@ -14,14 +14,21 @@ use std::alloc::Global;
 use std::slice;
 use std::sync::Arc;
 
-/// Settings that search any bytes, as the program of the notation does.
+/// The greatest size of each NFA in bytes, as they are counted: 60 MiB. With it no pattern below 4 KB takes more than 300 MB.
+const SIZE_LIMIT: usize = 60 << 20;
+
+/// Settings that search any bytes, as the program of the notation does, with this limit on the size of patterns.
 fn settings() -> Settings
     ensures { result ≡ line_settings }
 {
-    program_settings(Settings {
+    let settings = program_settings(Settings {
         utf8: false,
         ..Settings::new()
-    })
+    });
+    Settings {
+        size_limit: Some(SIZE_LIMIT),
+        ..settings
+    }
 }
 
 /// Options of automata with caches of this capacity in bytes.

@@ -112,12 +112,17 @@ fn report_loop(
     report_pattern(rt, number, message, pattern, place)
 }
 
-/// Reports why the patterns can't be compiled.
-fn report_build(rt: &HostRuntime, error: BuildError) -> Result<(), AllocError> {
-    if let BuildError::NoMemory = error {
-        return Err(AllocError);
-    }
-    let _ = eprintln!(rt; "hirgrep: the patterns are too large: {error}");
+/// Reports why the patterns can't be compiled. A limit on their size is named.
+fn report_build(rt: &HostRuntime, patterns: &[&str], error: BuildError) -> Result<(), AllocError> {
+    let which = match patterns.len() {
+        1 => "pattern 0 is",
+        _ => "the patterns together are",
+    };
+    let _ = match error {
+        BuildError::NoMemory => return Err(AllocError),
+        BuildError::NFA { err } => eprintln!(rt; "hirgrep: {which} too large: {err}"),
+        error => eprintln!(rt; "hirgrep: {which} too large: {error}"),
+    };
     Ok(())
 }
 
@@ -132,7 +137,7 @@ pub fn report_no_finder(
     match error {
         SearcherError::Text(error) => report_refused(rt, texts, error),
         SearcherError::EmptyLoop(number) => report_loop(rt, config, patterns, number),
-        SearcherError::Build(error) => report_build(rt, error),
+        SearcherError::Build(error) => report_build(rt, patterns, error),
     }
 }
 
