@@ -1,20 +1,61 @@
 -- The next line in the first part of a block is the next line of the block, if the part ends where a line does.
-use Rattle.std.proofs.Common.{◌≡◌, ◌≤◌, ◌<◌, inl, inr, ℕ, ◌+◌, ◌-◌, true, false, List, length, slice_get}
-use Rattle.std.proofs.Common.{take, drop, Some, true≢false, sym, ap, ◌∙◌, subst, arith, length-drop}
+use Rattle.std.proofs.Common.{◌≡◌, ◌≤◌, ◌<◌, inl, inr, ℕ, zero, suc, ◌+◌, ◌-◌, Bool, true, false, cond, List, [], ◌∷◌, length, slice_get}
+use Rattle.std.proofs.Common.{slice_range, take, drop, Some, None, nat_lt, true≢false, refl, sym, ap, ◌∙◌, subst, arith, length-drop, lt-ltb}
 use Rattle.std.proofs.lemmas.Bool.{cases_lt}
-use Rattle.std.proofs.lemmas.List.{length-take-le, take-take}
-use Rattle.std.specs.List.{position}
+use Rattle.std.proofs.lemmas.List.{drop-take, length-take-le, take_all, take-take}
+use Rattle.std.proofs.lemmas.List.Quantifiers.{position-Some}
+use Rattle.std.proofs.lemmas.Option.{get_or_from_slice_get}
+use Rattle.std.specs.List.{position, position_or_len}
 use Rattle.line_trees.proofs.ForCallers.{get_taken, get_dropped}
 use Rattle.grep_core.specs.Candidates.{IsLineStart, IsNextLine, HaveNoMatch, HasMatchAt}
 use Rattle.grep_core.specs.Lines.{ended, searched}
 use Rattle.grep_core.specs.Searchers.{IsMatchReported}
 use Rattle.grep_core.specs.declared.candidates.Reached.{Reached}
 use Rattle.grep_core.specs.declared.patterns.PatternOptions.{PatternOptions}
-use Rattle.grep_core.proofs.BlockLemmas.{is_feed, first_within}
+use Rattle.grep_core.proofs.BlockLemmas.{is_feed, first_at, first_within, some_at}
 
 -- ---- the first line feed
+same_by : (m x : ℕ) (xs : List ℕ) → (position_or_len is_feed xs < m → position_or_len is_feed (take m xs) ≡ position_or_len is_feed xs) →
+    (v : Bool) → is_feed x ≡ v → position_or_len is_feed (x ∷ xs) < suc m →
+    position_or_len is_feed (x ∷ take m xs) ≡ position_or_len is_feed (x ∷ xs)
+same_by m x xs rest true e less = first_at x (take m xs) true e ∙ sym (first_at x xs true e)
+same_by m x xs rest false e less =
+    first_at x (take m xs) false e ∙ ap (λ n. 1 + n) (rest (omega (arith, less, first_at x xs false e))) ∙ sym (first_at x xs false e)
+
+same_first : (m : ℕ) (xs : List ℕ) → position_or_len is_feed xs < m → position_or_len is_feed (take m xs) ≡ position_or_len is_feed xs
+same_first zero xs less = absurd (omega (arith, less))
+same_first (suc m) [] less = refl
+same_first (suc m) (x ∷ xs) less = same_by m x xs (same_first m xs) (is_feed x) refl less
+
+found_in_part : (text : List ℕ) (m len : ℕ) → position is_feed text ≡ Some len → len < m → position is_feed (take m text) ≡ Some len
+found_in_part text m len found less = elim (cases_lt m (length text)) [
+  | inl short ↦
+      let at = some_at (nat_lt (position_or_len is_feed text) (length text)) (position_or_len is_feed text) len found in
+      let same : position_or_len is_feed (take m text) ≡ position_or_len is_feed text = same_first m text (omega (arith, less, at.1)) in
+      let long : length (take m text) ≡ m = length-take-le m text (omega (arith, short)) in
+      ap (λ b. cond b (Some (position_or_len is_feed (take m text))) None)
+      (lt-ltb (position_or_len is_feed (take m text)) (length (take m text)) (omega (arith, same, at.1, less, long)))
+      ∙ ap Some (same ∙ at.1)
+  | inr all ↦ ap (position is_feed) (take_all m text all) ∙ found
+]
+
+-- no later than any other
+not_after : (text : List ℕ) (len k : ℕ) → position is_feed text ≡ Some len → slice_get text k ≡ Some 10 → len ≤ k
+not_after text len k found feed = elim (cases_lt k len) [
+  | inl less ↦
+      absurd (true≢false (sym (ap is_feed (get_or_from_slice_get text k 10 10 feed)) ∙ (position-Some is_feed text len 10 found).2 k less))
+  | inr over ↦ over
+]
 
 -- ---- a part of a block
+dropped_part : (block : List ℕ) (s end : ℕ) → s ≤ end → drop s (take end block) ≡ take (end - s) (drop s block)
+dropped_part block s end low =
+    let whole : end ≡ s + (end - s) = omega (arith, low) in
+    ap (λ n. drop s (take n block)) whole ∙ drop-take s (end - s) block
+
+range_in_part : (block : List ℕ) (at s end : ℕ) → at ≤ end → s ≤ end → slice_range (take end block) at s ≡ slice_range block at s
+range_in_part block at s end low high =
+    ap (take (s - at)) (dropped_part block at end low) ∙ take-take (s - at) (end - at) (drop at block) (omega (arith, high))
 
 module _ (how : PatternOptions) (texts : List (List ℕ)) (block : List ℕ) (at end : ℕ) (within : end ≤ length block)
     (ends : end < length block → IsLineStart block end)

@@ -1,5 +1,5 @@
 -- A run of lines without a match, line by line.
-use Rattle.std.proofs.Common.{◌≡◌, ℕ, ◌+◌, List, ◌∷◌, All, Some, false, refl, take, drop, sym}
+use Rattle.std.proofs.Common.{◌≡◌, ℕ, ◌+◌, List, [], ◌∷◌, All, Some, false, refl, take, drop, drop-drop, append-nil, sym, ap, ap₂, ◌∙◌}
 use Rattle.std.proofs.Common.{subst}
 use Rattle.std.proofs.lemmas.List.Elements.{All-head, All-tail, All-weaker}
 use Rattle.std.specs.List.{position}
@@ -9,7 +9,7 @@ use Rattle.grep_core.specs.Lines.{SplitLine, ended, split_lines}
 use Rattle.grep_core.specs.Skipping.{HasNoMatch}
 use Rattle.grep_core.specs.Report.{LineMatcher}
 use Rattle.grep_core.specs.Searchers.{Sought, found_by}
-use Rattle.grep_core.proofs.BlockLemmas.{is_feed}
+use Rattle.grep_core.proofs.BlockLemmas.{is_feed, first_line}
 use Rattle.grep_core.proofs.SeenLemmas.{none_found}
 
 -- lines in which nothing is found have no text of a match
@@ -19,6 +19,15 @@ pub all_lack : (t : Task) (s : Sought) (by : SearchesBy t s) (lines : List Split
 all_lack t s by lines none =
     All-weaker (λ line. (found_by by).has_match line ≡ false) (HasNoMatch (finds_by t by))
     (λ line lacks. record { no_match = lacks; no_text = none_found t.what.now by.how by.patterns line false (sym lacks) refl }) lines none
+
+-- the first of the lines that are left, and the others
+cut_lines : (block text piece : List ℕ) (done len : ℕ) → text ≡ drop done block → position is_feed text ≡ Some len →
+    piece ≡ take len text → split_lines (drop done block) ≡ ended piece ∷ split_lines (drop (done + (len + 1)) block)
+cut_lines block text piece done len rest found cut =
+    ap split_lines (sym rest ∙ sym (append-nil text))
+    ∙ first_line text [] len found
+    ∙ ap₂ (λ line t. ended line ∷ split_lines t) (sym cut)
+    (append-nil (drop (len + 1) text) ∙ ap (drop (len + 1)) rest ∙ drop-drop (len + 1) done block)
 
 module _ (f : LineMatcher) (block text piece : List ℕ) (done len : ℕ) (rest : text ≡ drop done block)
     (found : position is_feed text ≡ Some len) (cut : piece ≡ take len text) (lack : All (HasNoMatch f) (split_lines (drop done block)))

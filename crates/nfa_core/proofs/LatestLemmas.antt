@@ -1,16 +1,18 @@
 -- The lists of states that one depth-first search for each position makes. Uncut, they are the joins of what arrives. Cut after the first
 -- match, their latest match is that of the most preferred run.
-use Rattle.std.proofs.Common.{◌≡◌, ℕ, zero, suc, ◌+◌, ◌*◌, ◌<◌, ◌≤◌, Bool, List, ◌∷◌, sym, ap, ◌∙◌, arith, Option, []}
+use Rattle.std.proofs.Common.{◌≡◌, ℕ, zero, suc, ◌+◌, ◌*◌, ◌<◌, ◌≤◌, Bool, List, [], ◌∷◌, ◌++◌, refl, sym, ap, ◌∙◌, arith, ⊎_elim, Option}
+use Rattle.std.proofs.Common.{Some, None}
 use Rattle.std.proofs.lemmas.List.{append-nil}
 use Rattle.std.specs.List.{flat_map}
-use Rattle.std.specs.Option.{option_or}
+use Rattle.std.specs.Option.{option_or, option_to_list}
 use Rattle.std.specs.Bool.{nat_eq}
 use Rattle.nfa_core.specs.Walks.{Has, chain_ends, join, Visits, done, held, fresh, IsEquality}
 use Rattle.nfa_core.specs.Runs.{answers, run_ends}
 use Rattle.nfa_core.specs.Places.{same_pair, nexts, StaysBelow, arrivals, AreStepLists, before_answer, answers_at, first, latest, IsGraph}
-use Rattle.nfa_core.proofs.MemberLemmas.{none_in, has_first, has_later, of_cons, of_push, of_flat_map, flat_map_twice}
+use Rattle.nfa_core.proofs.MemberLemmas.{none_in, has_first, has_later, of_cons, of_push, of_flat_map, flat_map_same, flat_map_twice}
 use Rattle.nfa_core.proofs.JoinLemmas.{join_flat_map}
 use Rattle.nfa_core.proofs.WalkLemmas.{walk_is_join}
+use Rattle.nfa_core.proofs.PreferenceLemmas.{first_append, option_cases}
 use Rattle.nfa_core.proofs.RunLemmas.{first_distinct}
 use Rattle.nfa_core.proofs.PairLemmas.{names_equal, finite_names}
 use Rattle.nfa_core.proofs.PlaceLemmas.{here, beyond, found, ends_by_offset}
@@ -24,6 +26,38 @@ stays ways n below (fresh x stack seen mid after absent one two) inside low q h 
     let x_low : x < n = inside x (has_first nat_eq names_equal x stack) in
     stays ways n below two (λ p g. inside p (has_later nat_eq p x stack g))
     (stays ways n below one (below x x_low) (of_push nat_eq names_equal (λ p. p < n) seen x low x_low)) q h
+
+or_assoc : {A : Type 0} (a b c : Option A) → option_or (option_or a b) c ≡ option_or a (option_or b c)
+or_assoc None b c = refl
+or_assoc (Some x) b c = refl
+
+-- repeats below a flat_map do not change its first member
+pub first_flat_map : {B : Type 0} (same : B → B → Bool) → IsEquality same → (g : ℕ → List B) (xs : List ℕ) →
+    first (flat_map g (join nat_eq [] xs)) ≡ first (flat_map g xs)
+first_flat_map same laws g xs = sym (first_distinct same (flat_map g (join nat_eq [] xs)))
+    ∙ ap first (join_flat_map nat_eq names_equal same laws g [] [] xs)
+    ∙ first_distinct same (flat_map g xs)
+
+-- the runs that go on from states before the first match come before it, and all others after it
+cut_first : {B : Type 0} (answer : ℕ → Option B) (r : ℕ → List B) (xs : List ℕ) →
+    option_or (first (flat_map r (before_answer answer xs))) (first (answers answer xs)) ≡ first
+    (flat_map (λ y. option_to_list (answer y) ++ r y) xs)
+cut_first {B} answer r [] = refl
+cut_first {B} answer r (x ∷ xs) = ⊎_elim
+    (λ (e : answer x ≡ None). rw e
+    (ap (λ o. option_or o (first (answers answer xs))) (first_append (r x) (flat_map r (before_answer answer xs)))
+    ∙ or_assoc (first (r x)) (first (flat_map r (before_answer answer xs))) (first (answers answer xs))
+    ∙ ap (λ o. option_or (first (r x)) o) (cut_first answer r xs)
+    ∙ sym (first_append (r x) (flat_map (λ y. option_to_list (answer y) ++ r y) xs))))
+    (λ (some : (d : B) × (answer x ≡ Some d)). rw some.1 refl) (option_cases (answer x))
+
+has_before : {B : Type 0} (answer : ℕ → Option B) (xs : List ℕ) (q : ℕ) → Has nat_eq q (before_answer answer xs) → Has nat_eq q xs
+has_before answer [] q h = h
+has_before {B} answer (x ∷ xs) q h = ⊎_elim
+    (λ (e : answer x ≡ None). let g : Has nat_eq q (x ∷ before_answer answer xs) = (rw e at h) in
+    of_cons nat_eq names_equal (λ p. Has nat_eq p (x ∷ xs)) x (before_answer answer xs) (has_first nat_eq names_equal x xs)
+    (λ p there. has_later nat_eq p x xs (has_before answer xs p there)) q g)
+    (λ (some : (d : B) × (answer x ≡ Some d)). none_in nat_eq q _ (rw some.1 at h)) (option_cases (answer x))
 
 module _ (eps step : ℕ → ℕ → List ℕ) (n len : ℕ) (graph : IsGraph eps step n len) where
   pub place : (k : ℕ) (xs list : List ℕ) → Visits nat_eq (eps k) xs [] list → ((q : ℕ) → Has nat_eq q xs → q < n) →
@@ -59,6 +93,10 @@ module _ (eps step : ℕ → ℕ → List ℕ) (n len : ℕ) (graph : IsGraph ep
         ∙ ap (join nat_eq []) (sym (flat_map_twice ends (step k) arrived))
 
   module _ {B : Type 0} (same_end : B → B → Bool) (laws_end : IsEquality same_end) (answer : ℕ × ℕ → Option B) where
+    no_more : (k : ℕ) (xs : List ℕ) → flat_map (found eps step answer n 0 k) xs ≡ answers_at answer k xs
+    no_more k xs = flat_map_same nat_eq names_equal (found eps step answer n 0 k) (here eps step answer n k) xs
+        (λ y h. append-nil (here eps step answer n k y))
+
     module _ (start : ℕ) (lists : ℕ → List ℕ)
         (listed : AreStepLists eps step (λ k xs. before_answer (λ x. answer (k, x)) xs) len start lists)
       where
