@@ -127,10 +127,12 @@ part_from_start (Some w) (Some v) head also text done most left n wrote =
     let same = same_head head also (w ++ head) (v ++ drop done also) (take n text) most left wrote in
     let few : length (drop done also) ≤ length head =
     let e = length-drop done also in let f = ap length same in omega (arith, e, f) in
-    let cut = shorter (length v - length w) n head text in
-    (cut.0, begins w v (drop done also) head (take n text) few
-    (all_bytes head also (w ++ head) (v ++ drop done also) (take n text) most left wrote)
-    ∙ ap (λ t. w ++ t) cut.1)
+    let cut = shorter (length v - length w) n head text in (
+      cut.0,
+      begins w v (drop done also) head (take n text) few
+          (all_bytes head also (w ++ head) (v ++ drop done also) (take n text) most left wrote)
+          ∙ ap (λ t. w ++ t) cut.1,
+    )
 
 pub shown_part : (a b : Option (List ℕ)) (head also text : List ℕ) (start done most left n : ℕ) → start ≡ 0 →
     Appends (option_map (tagged most head) (with_heading a head start)) (option_map (tagged left also) (with_heading b also done))

@@ -122,12 +122,7 @@ fn counts_matches(print: Print) -> bool
 }
 
 /// Adds the matches of a line to their number if the line is selected and the number is printed.
-fn more_matches(
-    print: Print,
-    matches: u64,
-    is_selected: bool,
-    found: usize,
-) -> Result<u64, Fault>
+fn more_matches(print: Print, matches: u64, is_selected: bool, found: usize) -> Result<u64, Fault>
     ensures { IfOk result (λ n. n ≡ matches + added_matches print is_selected found) }
 {
     if counts_matches(print) && is_selected {
@@ -219,7 +214,11 @@ fn push_count(
 }
 
 /// Appends the name of an input as a line.
-pub(crate) fn push_name(out: &mut Vec<u8>, what: &OutputOptions<'_>, name: &[u8]) -> Result<(), AllocError>
+pub(crate) fn push_name(
+    out: &mut Vec<u8>,
+    what: &OutputOptions<'_>,
+    name: &[u8],
+) -> Result<(), AllocError>
     ensures { OnOk result (out.new.items ≡ out.old.items ++ name_line what.now name.now) }
 {
     push_marked(out, what.color, b"35", name)?;
@@ -246,7 +245,13 @@ pub(crate) fn report_end(
             Ok(())
         }
         Print::Count => push_count(alloc, out, what, shown(name, with_name), telling.count),
-        Print::CountMatches => push_count(alloc, out, what, shown(name, with_name), telling.matches),
+        Print::CountMatches => push_count(
+            alloc,
+            out,
+            what,
+            shown(name, with_name),
+            telling.matches,
+        ),
         Print::NameIfAny if telling.count > 0 => push_name(out, what, name),
         Print::NameIfNone if telling.count == 0 => push_name(out, what, name),
         _ => Ok(()),

@@ -158,7 +158,8 @@ fn push_counts<'a>(alloc: Global, args: &mut Vec<Arg<'a>>) -> Result<(), AllocEr
     let (lines, matches) = ("count", "count-matches");
     let help = "print how many lines are selected";
     push_pair(alloc, args, lines, 'c', matches, help)?;
-    let help = "print how many matches the selected lines have, or with -v how many lines are selected";
+    let help =
+        "print how many matches the selected lines have, or with -v how many lines are selected";
     let arg = option(alloc, matches, ArgAction::SetTrue, help);
     push_over(args, arg, lines)
 }

@@ -1,5 +1,5 @@
 -- What each option asks for. Options are identified by their long names, under which the matches of the command line hold what was given.
-use Rattle.std.specs.Prelude.{ℕ, ◌^◌, ◌-◌, Bool, true, false, ◌||◌, nat_lt, List, codes, Option, Some, None, is_some, unwrap_or, if◌then◌else◌}
+use Rattle.std.specs.Prelude.{ℕ, ◌^◌, ◌-◌, Bool, true, false, not, ◌&&◌, ◌||◌, nat_lt, List, codes, Option, Some, None, is_some, unwrap_or, if◌then◌else◌}
 use Rattle.std.specs.Option.{option_or}
 use Rattle.clap.specs.Words.{first_value}
 use Rattle.clap.specs.declared.parser.matches.Found.{Found}
@@ -62,11 +62,11 @@ color_by word is_colorful =
     else if is_text (codes "auto") word then is_colorful
     else false
 
--- --color, -p: without the first one the second one marks what is printed.
+-- --color, -p, --vimgrep: without the first one the second one marks what is printed, and the third one doesn't.
 abbrev pub color_of : Found → Bool → Bool
 color_of f is_colorful =
     if is_some (first_value f (codes "color")) then color_by (first_value f (codes "color")) is_colorful
-    else is_set f (codes "pretty")
+    else is_set f (codes "pretty") && not (is_set f (codes "vimgrep"))
 
 -- --heading, -p, --no-heading, --vimgrep: the name of a file is printed once above its lines. The last two take precedence.
 abbrev pub has_heading : Found → Bool

@@ -159,8 +159,8 @@ pub fn is_colorful(rt: &HostRuntime) -> bool {
     }
 }
 
-/// Whether matches and names are marked, by `--color` or, without it, by `-p`. `is_colorful` says whether standard output is a terminal
-/// that supports colours.
+/// Whether matches and names are marked, by `--color` or, without it, by `-p` if `--vimgrep` isn't given. `is_colorful` says whether
+/// standard output is a terminal that supports colours.
 fn color_of(matches: &ArgMatches<'_>, is_colorful: bool) -> bool
     ensures { result ≡ color_of (found_of matches.now) is_colorful }
 {
@@ -168,7 +168,7 @@ fn color_of(matches: &ArgMatches<'_>, is_colorful: bool) -> bool
         Some("always") => true,
         Some("auto") => is_colorful,
         Some(_) => false,
-        None => is_set(matches, "pretty"),
+        None => is_set(matches, "pretty") && !is_set(matches, "vimgrep"),
     }
 }
 

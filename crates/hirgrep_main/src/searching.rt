@@ -26,8 +26,8 @@ use crate::selecting_files::Selection;
 use crate::task::{Task, shown_name};
 use crate::walking::{Kind, is_output, kind_of, output_file, push_folder, push_found};
 use grep_core::{
-    Fault, Finder, Headed, LinePatterns, OutputOptions, Print, SearcherError, config_of, needs_spans,
-    pattern_source,
+    Fault, Finder, Headed, LinePatterns, OutputOptions, Print, SearcherError, config_of,
+    needs_spans, pattern_source,
 };
 use std::alloc::{AllocError, Global};
 use std::io::{Read, Write};
