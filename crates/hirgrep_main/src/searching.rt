@@ -1,8 +1,7 @@
 //! Searches files, one after the other.
-ghost use Rattle.std.specs.Prelude.{◌≡◌, ℕ, Bool, true, false, Result, Ok, IfErr, IfOk, IfSome, OnOk, codes, map, string_bytes, take, if◌then◌else◌};
-ghost use Rattle.std.specs.Io.KnownBytes.{Appends};
+ghost use Rattle.std.specs.Prelude.{◌≡◌, ℕ, Bool, true, false, Result, Ok, IfErr, IfOk, IfSome, OnOk, codes, map, string_bytes, if◌then◌else◌};
 ghost use Rattle.grep_core.specs.Meant.{written};
-ghost use Rattle.grep_core.specs.Report.{counted_as, report, selected_count};
+ghost use Rattle.grep_core.specs.Report.{counted_as, selected_count};
 ghost use Rattle.grep_core.specs.Searchers.{SearchesFor, found_by};
 ghost use Rattle.grep_core.specs.Reporting.{needs_spans, prints_lines};
 ghost use Rattle.grep_core.specs.declared.fault.Fault.{Fault as TheFault};
@@ -14,7 +13,6 @@ ghost use Rattle.hirgrep_main.specs.declared.walking.Kind.TheVariants.{Link, Dev
 ghost use Rattle.hirgrep_main.specs.Selecting.{depth_in, enters, selection, skips_found};
 ghost use Rattle.hirgrep_main.specs.Walking.{Tries, is_folder, is_folder_kind, is_left_out, leaves_out, may_be_several, named_by};
 ghost use Rattle.hirgrep_main.specs.Outcomes.{Continues, after_search, no_outcome, with_failure};
-ghost use Rattle.hirgrep_main.specs.Tasks.{options_in};
 
 use crate::asked::{Asked, Devices, Directories, Names};
 use crate::columns::width_at;
@@ -23,12 +21,13 @@ use crate::input::input;
 use crate::messages::{Causes, report_no_finder};
 use crate::outcome::Outcome;
 use crate::output::Output;
+use crate::reporting::report_reader;
 use crate::selecting_files::Selection;
 use crate::task::{Task, shown_name};
 use crate::walking::{Kind, is_output, kind_of, output_file, push_folder, push_found};
 use grep_core::{
-    Fault, Finder, LinePatterns, OutputOptions, Print, SearcherError, SeparatorState, config_of,
-    needs_spans, pattern_source, report_input,
+    Fault, Finder, Headed, LinePatterns, OutputOptions, Print, SearcherError, config_of,
+    needs_spans, pattern_source,
 };
 use std::alloc::{AllocError, Global};
 use std::io::{Read, Write};
@@ -68,43 +67,6 @@ fn texts_of(alloc: Global, asked: &Asked, patterns: &[&str]) -> Result<Vec<Strin
     Ok(texts)
 }
 
-/// Searches the input of a reader, and writes the output for it: the report that was asked for, under this name.
-fn report_reader<R: Read, W: Write>(
-    alloc: Global,
-    finder: &mut Finder<'_>,
-    task: Task<'_>,
-    known: SeparatorState,
-    name: &str,
-    reader: &mut R,
-    writer: &mut W,
-) -> Result<u64, Fault>
-    ensures same { finder.new ≡ finder.old }
-    ensures reported { OnOk result ((by : SearchesFor finder.old (needs_spans task.entry.asked.now.what)) →
-        IfSome (R.remaining reader.old) (λ text. Appends (W.contents writer.old) (W.contents writer.new)
-        (report (options_in task.entry) (found_by by) name.now task.entry.with_name known text))) }
-    ensures selected { IfOk result (λ n. (by : SearchesFor finder.old (needs_spans task.entry.asked.now.what)) →
-        IfSome (R.remaining reader.old) (λ text.
-        n ≡ counted_as task.entry.asked.now.what.print (selected_count task.entry.asked.now.what (found_by by) text))) }
-    ensures fault { IfErr result (λ _. (by : SearchesFor finder.old (needs_spans task.entry.asked.now.what)) →
-        IfSome (R.remaining reader.old) (λ text. (n : ℕ) × Appends (W.contents writer.old) (W.contents writer.new)
-        (take n (report (options_in task.entry) (found_by by) name.now task.entry.with_name known text)))) }
-{
-    let what = OutputOptions {
-        width: task.width,
-        ..task.asked.what
-    };
-    report_input(
-        alloc,
-        finder,
-        &what,
-        name.as_bytes(),
-        task.with_name,
-        known,
-        reader,
-        writer,
-    )
-}
-
 /// Searches the input of a reader under this name, and records the outcome.
 fn search_reader<R: Read + Drop, W: Write + Drop>(
     rt: &HostRuntime,
@@ -125,12 +87,12 @@ fn search_reader<R: Read + Drop, W: Write + Drop>(
     ensures continues { Continues outcome.old outcome.new }
 {
     let mut reader = Counting::new(reader);
-    let mut writer = Output::new(writer);
+    let mut writer = Headed::new(rt.alloc(), Output::new(writer));
     let reported = report_reader(
         rt.alloc(),
         finder,
         task,
-        outcome.known(),
+        *outcome,
         name,
         &mut reader,
         &mut writer,
@@ -140,21 +102,21 @@ fn search_reader<R: Read + Drop, W: Write + Drop>(
         task.asked,
         name,
         reader.count(),
-        writer.wrote(),
+        writer.writer.wrote(),
         reported,
         Causes {
             read: reader.code(),
-            write: writer.code(),
+            write: writer.writer.code(),
         },
     );
 }
 
-fn prints_lines(print: Print) -> bool
+pub fn prints_lines(print: Print) -> bool
     ensures { result ≡ prints_lines print }
 {
     match print {
         Print::Lines | Print::Matches => true,
-        Print::Count | Print::NameIfAny | Print::NameIfNone | Print::Nothing => false,
+        _ => false,
     }
 }
 
