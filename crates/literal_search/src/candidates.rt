@@ -26,8 +26,11 @@ const CANDIDATE: usize = 1024;
 /// How many skipped bytes make up for a search that stops since many offsets looked as if a literal began there.
 const MISSES: usize = 4096;
 
-/// How many bytes are searched without literals after these have given up.
+/// At least how many bytes are searched without literals after these have given up.
 const REST: usize = 1 << 16;
+
+/// For each byte of the cost at which literals have given up, so many are searched without literals.
+const REST_FOR_EACH: usize = 16;
 
 /// Whether a search for literals pays. It is kept from call to call. It counts bytes, so it may be kept from haystack to haystack too.
 #[derive(Clone, Copy, Debug)]
@@ -36,14 +39,22 @@ pub struct Effort {
     credit: usize,
     /// How many bytes are still to be searched without literals.
     rest: usize,
+    /// How many skipped bytes make up for a candidate.
+    candidate: usize,
 }
 
 impl Effort {
-    /// A search that hasn't begun.
+    /// A search that hasn't begun, for callers that search a line for each candidate.
     pub fn new() -> Effort {
+        Effort::with_price(CANDIDATE)
+    }
+
+    /// A search that hasn't begun. So many skipped bytes make up for a candidate.
+    pub fn with_price(candidate: usize) -> Effort {
         Effort {
             credit: CREDIT,
             rest: 0,
+            candidate,
         }
     }
 
@@ -60,7 +71,17 @@ impl Effort {
             return;
         }
         self.credit = CREDIT;
-        self.rest = REST;
+        self.rest = price.saturating_mul(REST_FOR_EACH).max(REST);
+    }
+
+    /// Records that what was done at a candidate cost as much as a search of this many bytes.
+    pub fn charge(&mut self, bytes: usize) {
+        self.record(0, bytes);
+    }
+
+    /// Records that a candidate saved as much as a search of this many bytes costs.
+    pub fn gain(&mut self, bytes: usize) {
+        self.record(bytes, 0);
     }
 
     /// Records that this many bytes were searched without literals.
@@ -147,7 +168,7 @@ impl CandidateFinder {
         }
         let stop = self.search.find_at(haystack, from);
         match stop {
-            Stop::At(at) => effort.record(at.saturating_sub(from), CANDIDATE),
+            Stop::At(at) => effort.record(at.saturating_sub(from), effort.candidate),
             Stop::Tired(at) => effort.record(at.saturating_sub(from), MISSES),
             Stop::Missing => effort.record(haystack.len() - from, 0),
         }
