@@ -18,6 +18,7 @@ mod messages;
 mod outcome;
 mod output;
 mod patterns;
+mod retrying;
 mod searching;
 mod selecting_files;
 mod shown;
