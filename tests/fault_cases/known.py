@@ -5,7 +5,7 @@ import re
 from dataclasses import dataclass
 
 from .strace import LIMIT
-from .verdicts import NO_STACK, NOT_REPEATED
+from .verdicts import NO_STACK
 
 ANY = "any"
 
@@ -45,7 +45,6 @@ class KnownWords:
 
 
 KNOWN_FAULTS = [
-    KnownFault(ANY, "read", ANY, NOT_REPEATED, "grep_core/src/line_buffer.rt: read_into"),
     # The stack begins with 132 KB, and the system makes it grow at the first write below it. If a limit of memory has room for all else and
     # not for that, the system ends the program: a page fault can't be answered by an error. Up to 20 nested groups nothing more is
     # needed; 30 groups have a window of 8 KB, 120 of 132. Only a smaller stack or one of a fixed size for all work would end that, and

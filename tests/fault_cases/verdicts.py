@@ -12,7 +12,7 @@ ALL = "all"
 # how the C library's loader ends a program; the second if it is out of memory at once
 NOT_LOADED = (127, -signal.SIGSEGV)
 GOOD = ("answer", "reported", "loader")
-NOT_REPEATED = "an interrupted read isn't made once more"
+NOT_REPEATED = "an interrupted read or write isn't made once more"
 NO_STACK = "the stack can't grow"
 
 
@@ -112,8 +112,7 @@ def verdict(case, result, answer, offset, room):
     if case.call.name == LIMIT and result.status == -signal.SIGSEGV:
         return NO_STACK
     report = report_of(case, result, answer, room)
-    # GNU grep and ripgrep read again
-    return NOT_REPEATED if report == "reported" and (case.call.name, case.fault) == ("read", "EINTR") else report
+    return NOT_REPEATED if report == "reported" and case.call.name in ("read", "write") and case.fault == "EINTR" else report
 
 
 def is_part_of(printed, answer, may_be_cut):

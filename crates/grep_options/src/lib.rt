@@ -6,6 +6,7 @@
 
 mod files;
 mod format;
+mod headings;
 mod numbers;
 mod options;
 mod values;

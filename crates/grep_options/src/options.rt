@@ -9,6 +9,7 @@ ghost use Rattle.grep_options.specs.CommandLine.{syntax_options, turning_off, wo
 
 use crate::files::push_files;
 use crate::format::push_format;
+use crate::headings::heading_of;
 use clap::{Arg, ArgAction, Command, value_parser};
 use std::alloc::{AllocError, Global};
 
@@ -19,11 +20,21 @@ pub fn option<'a>(alloc: Global, id: &'a str, action: ArgAction, help: &'a str) 
     Arg::new(alloc, id).long(id).help(help).action(action)
 }
 
-/// Appends an option. Only this function drops an option for which there is no room.
+/// The option under the heading of its subject.
+fn under_heading<'a>(arg: Arg<'a>) -> Arg<'a>
+    ensures { option_row result ≡ option_row arg.entry }
+{
+    match heading_of(arg.get_id()) {
+        Some(heading) => arg.help_heading(heading),
+        None => arg,
+    }
+}
+
+/// Appends an option, under the heading of its subject. Only this function drops an option for which there is no room.
 pub fn push<'a>(args: &mut Vec<Arg<'a>>, arg: Arg<'a>) -> Result<(), AllocError>
     ensures { OnOk result (AddsOptions args.old.items args.new.items (option_row arg.entry ∷ [])) }
 {
-    args.push(arg)?;
+    args.push(under_heading(arg))?;
     Ok(())
 }
 

@@ -1,8 +1,9 @@
-//! A reader that counts bytes, and keeps the code of an error.
+//! A reader that counts bytes, tries again after an interruption, and keeps the code of an error.
 ghost use Rattle.std.specs.Prelude.{◌≡◌};
 
+use crate::retrying;
 use std::io;
-use std::io::Read;
+use std::io::{ErrorKind, Read};
 
 /// A reader, how many bytes it returned, and the code of the system's error if a read failed.
 #[derive(Drop)]
@@ -40,8 +41,8 @@ impl<R> Counting<R> {
 }
 
 impl<R: Read> Read for Counting<R> {
-    ghost use Rattle.std.specs.Prelude.{◌≡◌, IfErr, IfOk};
-    ghost use Rattle.std.specs.IoError.{raw_os_error};
+    ghost use Rattle.std.specs.Prelude.{◌≡◌, ◌≢◌, IfErr, IfOk};
+    ghost use Rattle.std.specs.IoError.{error_kind, raw_os_error};
     ghost use Rattle.std.specs.Io.{ReadsAtMost};
     ghost use Rattle.std.specs.Io.KnownBytes.{ReadConsumes};
     ghost use Rattle.hirgrep_main.specs.Decisions.{counted};
@@ -53,8 +54,9 @@ impl<R: Read> Read for Counting<R> {
         ensures bytes { ReadConsumes (R.remaining self.old.reader) (R.remaining self.new.reader) result buf.new }
         ensures count { IfOk result (λ n. self.new.count ≡ counted self.old.count n) }
         ensures code { IfErr result (λ e. self.new.code ≡ raw_os_error e) }
+        ensures retried { IfErr result (λ e. error_kind e ≢ ErrorKind.Interrupted) }
     {
-        match self.reader.read(buf) {
+        match retrying::read(&mut self.reader, buf) {
             Ok(n) => {
                 self.count = self.count.saturating_add(n as u64);
                 Ok(n)

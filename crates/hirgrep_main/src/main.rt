@@ -19,6 +19,7 @@ mod outcome;
 mod output;
 mod patterns;
 mod reporting;
+mod retrying;
 mod searching;
 mod selecting_files;
 mod shown;

@@ -1,8 +1,9 @@
-//! A writer that records whether bytes were written to it, and keeps the code of an error.
+//! A writer that records whether bytes were written to it, tries again after an interruption, and keeps the code of an error.
 ghost use Rattle.std.specs.Prelude.{◌≡◌, false};
 
+use crate::retrying;
 use std::io;
-use std::io::Write;
+use std::io::{ErrorKind, Write};
 
 /// A writer, whether bytes were written to it, and the code of the system's error if a write failed.
 #[derive(Drop)]
@@ -40,8 +41,8 @@ impl<W> Output<W> {
 }
 
 impl<W: Write> Write for Output<W> {
-    ghost use Rattle.std.specs.Prelude.{◌≡◌, IfErr, true};
-    ghost use Rattle.std.specs.IoError.{raw_os_error};
+    ghost use Rattle.std.specs.Prelude.{◌≡◌, ◌≢◌, IfErr, true};
+    ghost use Rattle.std.specs.IoError.{error_kind, raw_os_error};
     ghost use Rattle.std.specs.Io.{WritesAtMost};
     ghost use Rattle.std.specs.Io.KnownBytes.{Keeps, WriteAppends};
 
@@ -52,9 +53,10 @@ impl<W: Write> Write for Output<W> {
         ensures bytes { WriteAppends (W.contents self.old.writer) (W.contents self.new.writer) result buf.now }
         ensures wrote { self.new.wrote ≡ true }
         ensures code { IfErr result (λ e. self.new.code ≡ raw_os_error e) }
+        ensures retried { IfErr result (λ e. error_kind e ≢ ErrorKind.Interrupted) }
     {
         self.wrote = true;
-        match self.writer.write(buf) {
+        match retrying::write(&mut self.writer, buf) {
             Ok(n) => Ok(n),
             Err(e) => {
                 self.code = e.raw_os_error();

@@ -1,0 +1,71 @@
+//! The subjects under which help lists the options.
+
+/// The subject of an option, by its long name. Operands have none.
+pub fn heading_of(id: &str) -> Option<&'static str> {
+    match id {
+        "words" => None,
+        "regexp" | "file" | "extended-regexp" | "perl-regexp" | "fixed-strings" | "basic-regexp" =>
+            Some("Patterns"),
+        "ignore-case"
+        | "no-ignore-case"
+        | "smart-case"
+        | "word-regexp"
+        | "line-regexp"
+        | "invert-match"
+        | "crlf"
+        | "null-data"
+        | "multiline"
+        | "max-count" => Some("What is selected"),
+        "include"
+        | "exclude"
+        | "exclude-from"
+        | "exclude-dir"
+        | "glob"
+        | "iglob"
+        | "type"
+        | "type-not"
+        | "type-list"
+        | "files"
+        | "ignore"
+        | "no-ignore"
+        | "ignore-file"
+        | "max-filesize" => Some("Which files are searched"),
+        "directory"
+        | "recursive"
+        | "dereference-recursive"
+        | "directories"
+        | "devices"
+        | "hidden"
+        | "max-depth"
+        | "sort" => Some("Folders and devices"),
+        "text" | "binary" | "binary-files" | "without-binary" => Some("Files that are not text"),
+        "count"
+        | "count-matches"
+        | "files-with-matches"
+        | "files-without-match"
+        | "quiet"
+        | "only-matching"
+        | "passthru"
+        | "vimgrep"
+        | "replace"
+        | "json" => Some("What is printed"),
+        "after-context" | "before-context" | "context" | "group-separator" | "no-group-separator" =>
+            Some("Context"),
+        "with-filename"
+        | "no-filename"
+        | "line-number"
+        | "byte-offset"
+        | "column"
+        | "null"
+        | "initial-tab"
+        | "label"
+        | "heading"
+        | "no-heading"
+        | "trim"
+        | "max-columns"
+        | "color"
+        | "pretty"
+        | "line-buffered" => Some("How lines are printed"),
+        _ => Some("Other options"),
+    }
+}

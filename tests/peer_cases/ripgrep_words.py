@@ -1,0 +1,114 @@
+"""The words of a command line of ripgrep 13 as those that hirgrep has for the same.
+
+ripgrep searches folders, leaves out ignored and hidden files, and prints neither headings nor line numbers if its output is no terminal.
+Some of its letters mean other things to GNU grep and to hirgrep. What is left out here asks for what hirgrep does in any case."""
+
+# long options that take a value, and letters that do
+VALUES = """after-context before-context color colors context context-separator dfa-size-limit encoding engine field-context-separator
+field-match-separator file glob iglob ignore-file max-columns max-count max-depth maxdepth max-filesize path-separator pre pre-glob regexp
+regex-size-limit replace sort sortr threads type type-add type-clear type-not""".split()
+LETTER_VALUES = "ABCEMTefgjmrt"
+
+# letters of ripgrep, as options of hirgrep
+LETTERS = {"0": "--null", "E": "--encoding", "I": "--no-filename", "L": "-R", "N": "--no-line-number", "P": "--pcre2", "S": "--smart-case", "T": "--type-not",
+           "U": "--multiline", "p": "--pretty", "r": "--replace", "s": "--no-ignore-case", "z": "--search-zip", ".": "--hidden", "j": "--threads",
+           "h": "--help"}
+LONG = {"case-sensitive": "no-ignore-case", "context-separator": "group-separator", "no-context-separator": "no-group-separator", "follow": "dereference-recursive",
+        "maxdepth": "max-depth", "null-data": "null-data", "passthrough": "passthru", "no-unicode": "no-unicode"}
+ALREADY = {"no-heading", "no-mmap", "mmap", "no-config", "threads", "no-pcre2", "no-stats", "no-column", "no-multiline"}
+SORTS = {"sort-files": ["--sort", "path"], "no-sort-files": ["--sort", "none"]}
+
+
+def long_words(name, value):
+    if name in ALREADY or (name, value) == ("path-separator", "/"):
+        return []
+    if name in SORTS:
+        return SORTS[name]
+    name = LONG.get(name, name)
+    return [f"--{name}"] if value is None else [f"--{name}={value}"]
+
+
+def letter_words(letter, value):
+    if letter == "j":
+        return []
+    word = LETTERS.get(letter, f"-{letter}")
+    if value is None:
+        return [word]
+    return [f"{word}={value}"] if word.startswith("--") else [word, value]
+
+
+class Reader:
+    """Reads the words of ripgrep one by one."""
+
+    def __init__(self, words):
+        self.rest = list(words)
+        self.options = []
+        self.operands = []
+
+    def value(self, text):
+        """The value of an option, which may be the next word."""
+        if text is not None:
+            return text
+        return self.rest.pop(0) if self.rest else None
+
+    def long(self, word):
+        name, equals, text = word[2:].partition("=")
+        value = self.value(text if equals else None) if name in VALUES else None
+        if name in ("ignore-case", "case-sensitive", "smart-case"):
+            self.options = [it for it in self.options if it not in ("-i", "--ignore-case", "--no-ignore-case", "--smart-case")]
+        self.options += long_words(name, value)
+
+    def letters(self, word):
+        at = 1
+        while at < len(word):
+            letter = word[at]
+            at += 1
+            if letter in LETTER_VALUES:
+                text = word[at:].removeprefix("=") if at < len(word) else None
+                self.options += letter_words(letter, self.value(text))
+                return
+            if letter in "isS":
+                self.options = [it for it in self.options if it not in ("-i", "--ignore-case", "--no-ignore-case", "--smart-case")]
+            self.options += letter_words(letter, None)
+
+    def read(self):
+        while self.rest:
+            word = self.rest.pop(0)
+            if word == "--":
+                self.operands += self.rest
+                return
+            if word.startswith("--"):
+                self.long(word)
+            elif word.startswith("-") and word != "-":
+                self.letters(word)
+            else:
+                self.operands.append(word)
+
+
+def settled(options):
+    """Without pairs of options of which the second one undoes the first, and with what they leave of ripgrep's habits."""
+    count = options.count("-u") + options.count("--unrestricted")
+    options = [it for it in options if it not in ("-u", "--unrestricted")]
+    ignores = count == 0 and "--no-ignore" not in options
+    hidden = count > 1 or "--hidden" in options
+    options = [it for it in options if it not in ("--no-ignore", "--ignore", "--hidden", "--no-hidden")]
+    if "-n" not in options and "--line-number" not in options:
+        options = [it for it in options if it != "--no-line-number"]
+    return options, ignores, hidden
+
+
+def hirgrep_words(words, reads_input, has_ignore):
+    """The words for hirgrep. `reads_input` is whether something is piped to the command, and `has_ignore` whether the program has --ignore."""
+    reader = Reader(words)
+    reader.read()
+    options, ignores, hidden = settled(reader.options)
+    lists = "--files" in options
+    given = any(it in ("-e", "-f") or it.startswith(("--regexp", "--file=")) for it in options)
+    paths = reader.operands if given or lists else reader.operands[1:]
+    if paths or not reads_input or "--file=-" in options or "-f -" in " ".join(options):
+        options.insert(0, "-r")
+    if not hidden:
+        options.insert(0, "--glob=!.*")
+    if ignores and has_ignore:
+        options.insert(0, "--ignore")
+    return [*options, "--", *reader.operands] if reader.operands else options
