@@ -142,10 +142,11 @@ fn heading_of(
     Ok(text)
 }
 
-/// Reads an input line by line, as [`report_input`] does, and writes what is printed for it under a heading: its name as a line, if
-/// `with_name` asks for it, and after what was printed for earlier inputs an empty line before it, which `printed` asks for. If nothing is
-/// printed for the input, there is no heading. Lines have no name before them. On an error, a prefix of the heading and what follows it
-/// was written.
+/// Reads an input line by line, as [`report_input`] does, and writes what is printed for it under a heading.
+///
+/// The heading is the input's name as a line, if `with_name` asks for it. With `printed`, which says that something was printed for earlier
+/// inputs, an empty line precedes it. If nothing is printed for the input, there is no heading. Lines have no name before them. On an
+/// error, a prefix of the heading and what follows it was written.
 pub fn report_headed<R: Read, W: Write>(
     alloc: Global,
     finder: &mut Finder<'_>,
