@@ -1491,13 +1491,28 @@ static inline const uint8_t *few_bytes_of(Matcher *self, PyObject *object, Py_ss
     return (const uint8_t *)bytes;
 }
 
-/* Searches few bytes. The interpreter's lock is kept, so nobody else can use the handle, and it isn't taken out of its stock. */
+/* The bytes of the only argument of a search, if they are few, and one call with an idle handle searches them. Otherwise NULL. */
+static inline const uint8_t *plain_bytes_of(Matcher *self, PyObject *const *args, Py_ssize_t nargs, PyObject *keywords, Py_ssize_t *length)
+{
+    if (nargs != 1 || keywords || !self->has_plain_searches || self->stock.idle_count == 0)
+        return NULL;
+    const uint8_t *bytes = few_bytes_of(self, args[0], length);
+    if (!bytes)
+        PyErr_Clear();
+    return bytes;
+}
+
+/* A handle for a search of few bytes. The interpreter's lock is kept, so nobody else can use it, and it isn't taken out of its stock. */
+static inline hanneddois_regex *idle_handle(Matcher *self)
+{
+    return &self->stock.idle[self->stock.idle_count - 1];
+}
+
 static inline PyObject *search_few(Matcher *self, PyObject *object, const uint8_t *bytes, Py_ssize_t length)
 {
     hanneddois_match match;
     hanneddois_error error;
-    hanneddois_regex *handle = &self->stock.idle[self->stock.idle_count - 1];
-    hanneddois_status status = hanneddois_find_at(handle, bytes, (size_t)length, 0, &match, &error);
+    hanneddois_status status = hanneddois_find_at(idle_handle(self), bytes, (size_t)length, 0, &match, &error);
     if (status == HANNEDDOIS_OK) {
         Place place = {0, 0, length, 0, length};
         return (PyObject *)make_match(self, object, &match, match.start, match.end, &place);
@@ -1512,13 +1527,8 @@ static PyObject *matcher_search(PyObject *object, PyObject *const *args, Py_ssiz
 {
     Matcher *self = (Matcher *)object;
     Py_ssize_t length;
-    if (nargs == 1 && !keywords && self->has_plain_searches && self->stock.idle_count > 0) {
-        const uint8_t *bytes = few_bytes_of(self, args[0], &length);
-        if (bytes)
-            return search_few(self, args[0], bytes, length);
-        PyErr_Clear();
-    }
-    return find_parsed(object, args, nargs, keywords, 0);
+    const uint8_t *bytes = plain_bytes_of(self, args, nargs, keywords, &length);
+    return bytes ? search_few(self, args[0], bytes, length) : find_parsed(object, args, nargs, keywords, 0);
 }
 
 /* How many bytes the character has that ends at an offset above 0; if none ends there, the byte before it is one. */
@@ -1621,6 +1631,15 @@ static PyObject *matcher_fullmatch(PyObject *self, PyObject *const *args, Py_ssi
     return match_parsed("fullmatch", self, args, nargs, keywords, 1);
 }
 
+/* What a test for a match returns to Python. */
+static PyObject *reported(hanneddois_status status, const hanneddois_error *error)
+{
+    if (!is_failure(status))
+        return PyBool_FromLong(status == HANNEDDOIS_OK);
+    raise_error(error);
+    return NULL;
+}
+
 static PyObject *is_match(Matcher *self, const Haystack *haystack)
 {
     Search search;
@@ -1636,18 +1655,21 @@ static PyObject *is_match(Matcher *self, const Haystack *haystack)
     else
         status = hanneddois_is_match(&search.handle, haystack->bytes, haystack->length, &error);
     end_search(&search);
-    if (!is_failure(status))
-        return PyBool_FromLong(status == HANNEDDOIS_OK);
-    raise_error(&error);
-    return NULL;
+    return reported(status, &error);
 }
 
-static PyObject *matcher_is_match(PyObject *self, PyObject *const *args, Py_ssize_t nargs, PyObject *keywords)
+static PyObject *matcher_is_match(PyObject *object, PyObject *const *args, Py_ssize_t nargs, PyObject *keywords)
 {
+    Matcher *self = (Matcher *)object;
     Haystack haystack;
-    if (parse_haystack((Matcher *)self, "is_match", args, nargs, keywords, &haystack) < 0)
+    hanneddois_error error;
+    Py_ssize_t length;
+    const uint8_t *bytes = plain_bytes_of(self, args, nargs, keywords, &length);
+    if (bytes)
+        return reported(hanneddois_is_match(idle_handle(self), bytes, (size_t)length, &error), &error);
+    if (parse_haystack(self, "is_match", args, nargs, keywords, &haystack) < 0)
         return NULL;
-    PyObject *result = is_match((Matcher *)self, &haystack);
+    PyObject *result = is_match(self, &haystack);
     close_haystack(&haystack);
     return result;
 }
