@@ -285,6 +285,8 @@ typedef struct {
     hanneddois_options options;
     /* Whether a pattern has an unbounded repetition whose body can match the empty string. */
     int has_empty_loops;
+    /* Whether one call of hanneddois_find_at searches bytes: there are no such repetitions, and haystacks needn't be UTF-8. */
+    int has_plain_searches;
     /* The handles with which to search any bytes. */
     Stock stock;
     /* Handles with the flag HANNEDDOIS_UTF8. They read each haystack twice, so only what needs them uses them. */
@@ -294,7 +296,8 @@ typedef struct {
     /* For each pattern a tuple of the names of its groups and a dict of their numbers, or NULL until somebody asks. */
     PyObject *names;
     PyObject *indexes;
-    /* How many groups a pattern has at most, with group 0. */
+    /* For each pattern how many groups it has, with group 0, and the largest of these numbers. NULL as long as the names are. */
+    Py_ssize_t *group_counts;
     size_t most_groups;
     /* How many matches somebody asked for their groups. */
     size_t asked;
@@ -429,7 +432,7 @@ static PyObject *index_names(PyObject *names)
     return index;
 }
 
-static int list_names(Matcher *self, hanneddois_regex *handle, PyObject *all, PyObject *indexes)
+static int list_names(Matcher *self, hanneddois_regex *handle, PyObject *all, PyObject *indexes, Py_ssize_t *counts)
 {
     for (Py_ssize_t i = 0; i < self->count; i++) {
         PyObject *names = names_of(handle, (size_t)i);
@@ -438,38 +441,47 @@ static int list_names(Matcher *self, hanneddois_regex *handle, PyObject *all, Py
         PyObject *index = index_names(names);
         if (!index || PyTuple_SetItem(indexes, i, index) < 0)
             return -1;
-        if ((size_t)PyTuple_Size(names) > self->most_groups)
-            self->most_groups = (size_t)PyTuple_Size(names);
+        counts[i] = PyTuple_Size(names);
+        if ((size_t)counts[i] > self->most_groups)
+            self->most_groups = (size_t)counts[i];
     }
     return 0;
 }
 
-/* Finds the names of the groups of all patterns, if that wasn't done yet. */
-static int find_names(Matcher *self)
+static __attribute__((noinline)) int find_new_names(Matcher *self)
 {
     hanneddois_regex handle;
-    if (self->names)
-        return 0;
     PyObject *all = PyTuple_New(self->count), *indexes = PyTuple_New(self->count);
-    int status = all && indexes ? take_handle(self, &self->stock, &handle) : -1;
+    Py_ssize_t *counts = calloc((size_t)self->count + 1, sizeof *counts);
+    if (!counts)
+        PyErr_NoMemory();
+    int status = all && indexes && counts ? take_handle(self, &self->stock, &handle) : -1;
     if (status == 0) {
-        status = list_names(self, &handle, all, indexes);
+        status = list_names(self, &handle, all, indexes, counts);
         give_back(&self->stock, handle);
     }
     if (status == 0 && !self->names) {
         self->names = all;
         self->indexes = indexes;
+        self->group_counts = counts;
         return 0;
     }
     Py_XDECREF(all);
     Py_XDECREF(indexes);
+    free(counts);
     return status;
 }
 
-/* How many groups a pattern has, with group 0. The names have to be known. */
-static Py_ssize_t group_count(const Matcher *self, Py_ssize_t pattern)
+/* Finds the names of the groups of all patterns, if that wasn't done yet. */
+static inline int find_names(Matcher *self)
 {
-    return PyTuple_Size(PyTuple_GetItem(self->names, pattern));
+    return self->names ? 0 : find_new_names(self);
+}
+
+/* How many groups a pattern has, with group 0. The names have to be known. */
+static inline Py_ssize_t group_count(const Matcher *self, Py_ssize_t pattern)
+{
+    return self->group_counts[pattern];
 }
 
 static void free_stock(Stock *stock)
@@ -559,6 +571,7 @@ static PyObject *matcher_new(PyTypeObject *type, PyObject *args, PyObject *Py_UN
         PyErr_NoMemory();
     } else if (take_handle(self, first, &handle) == 0) {
         give_back(first, handle);
+        self->has_plain_searches = !self->has_empty_loops && !(options.flags & HANNEDDOIS_UTF8);
         return (PyObject *)self;
     }
     Py_DECREF(self);
@@ -573,6 +586,7 @@ static void matcher_dealloc(PyObject *object)
     free_stock(&self->utf8_stock);
     free(self->patterns);
     free(self->lengths);
+    free(self->group_counts);
     Py_XDECREF(self->given);
     Py_XDECREF(self->names);
     Py_XDECREF(self->indexes);
@@ -868,21 +882,24 @@ static int want_groups(Scan *scan)
     return 0;
 }
 
-/* Finds the next matches, as many as there is room for. */
-static void find_some(Scan *scan, Search *search)
+/* Finds the next matches, as many as there is room for, and returns how many. The count of the scan stays 0 meanwhile, since other threads
+   may read it. */
+static size_t find_some(Scan *scan, Search *search)
 {
-    while (scan->count < scan->room) {
-        hanneddois_match *row = &scan->rows[scan->count];
-        Query query = {scan->from, scan->width ? scan->slots + scan->count * scan->width : (size_t *)row, scan->width};
+    size_t count = 0;
+    while (count < scan->room) {
+        hanneddois_match *row = &scan->rows[count];
+        Query query = {scan->from, scan->width ? scan->slots + count * scan->width : (size_t *)row, scan->width};
         scan->status = scan->from > scan->haystack.length ? HANNEDDOIS_NONE
                                                           : find_from(scan->matcher, search, &scan->haystack, query, row, &scan->error);
         if (scan->status != HANNEDDOIS_OK)
-            return;
+            break;
         int is_empty = row->start == row->end, is_skipped = is_empty && row->end == scan->last_end && !scan->lists_all;
         scan->from = row->end + (is_skipped || (is_empty && scan->lists_all));
         scan->last_end = row->end;
-        scan->count += !is_skipped;
+        count += !is_skipped;
     }
+    return count;
 }
 
 static int has_room(Scan *scan, size_t room)
@@ -918,25 +935,32 @@ static int search_ahead(Scan *scan)
     if (begin_search(scan->matcher, &scan->matcher->stock, &scan->haystack, &search) < 0)
         return -1;
     scan->is_searching = 1;
-    find_some(scan, &search);
+    size_t count = find_some(scan, &search);
     end_search(&search);
+    scan->count = count;
     scan->is_searching = 0;
     return 0;
 }
 
-/* The next match, or NULL after the last one, and with an error raised. The slots of its groups are at `slots_of`. */
-static inline const hanneddois_match *next_row(Scan *scan)
+/* Finds further matches, once all were returned. Returns whether there is one; if not, an error may be raised. */
+static __attribute__((noinline)) int has_more(Scan *scan)
 {
     while (scan->next == scan->count) {
         if (scan->status != HANNEDDOIS_OK) {
             if (is_failure(scan->status))
                 raise_error(&scan->error);
-            return NULL;
+            return 0;
         }
         if (search_ahead(scan) < 0)
-            return NULL;
+            return 0;
     }
-    return &scan->rows[scan->next++];
+    return 1;
+}
+
+/* The next match, or NULL after the last one, and with an error raised. The slots of its groups are at `slots_of`. */
+static inline const hanneddois_match *next_row(Scan *scan)
+{
+    return scan->next < scan->count || has_more(scan) ? &scan->rows[scan->next++] : NULL;
 }
 
 /* The slots of the match that was returned last, or NULL if groups weren't searched for. */
@@ -1053,11 +1077,11 @@ static inline PyObject *part_of_bytes(const Haystack *haystack, size_t start, si
     return haystack->is_str ? PyUnicode_FromStringAndSize(bytes, length) : PyBytes_FromStringAndSize(bytes, length);
 }
 
-/* The part of the haystack between two offsets, as it is now: a buffer may have been written to, and may be shorter. */
-static PyObject *part_of(PyObject *object, Py_ssize_t start, Py_ssize_t end)
+/* The part of a str or of a buffer between two offsets, as it is now: a buffer may have been written to, and may be shorter. */
+static PyObject *part_of_other(PyObject *object, Py_ssize_t start, Py_ssize_t end)
 {
     Haystack haystack;
-    if (PyUnicode_Check(object))
+    if (PyUnicode_CheckExact(object) || PyUnicode_Check(object))
         return PyUnicode_Substring(object, start, end);
     if (open_haystack(&haystack, object) < 0)
         return NULL;
@@ -1069,15 +1093,22 @@ static PyObject *part_of(PyObject *object, Py_ssize_t start, Py_ssize_t end)
     return part;
 }
 
-/* Keeps the offsets of all groups but the whole match. Groups are inside of their match. */
-static int keep_offsets(Match *match, const Haystack *haystack, const size_t *slots, Py_ssize_t count)
+/* The bytes of a haystack that is of exactly that type, so that they never change, or NULL. */
+static inline const char *constant_bytes_of(PyObject *object)
+{
+    return PyBytes_CheckExact(object) ? PyBytes_AsString(object) : NULL;
+}
+
+/* The part of a haystack between two offsets, with its `constant_bytes_of`. */
+static inline PyObject *part_of(PyObject *object, const char *bytes, Py_ssize_t start, Py_ssize_t end)
+{
+    return bytes ? PyBytes_FromStringAndSize(bytes + start, end - start) : part_of_other(object, start, end);
+}
+
+/* Counts the characters before the offsets of all groups but the whole match. Groups are inside of their match. */
+static void count_offsets(const Match *match, const Haystack *haystack, const size_t *slots, Py_ssize_t count, Py_ssize_t *offsets)
 {
     Position first = {(size_t)match->place.start, (size_t)match->start}, position = first;
-    Py_ssize_t *offsets = count - 1 <= FEW_GROUPS ? match->few : malloc((size_t)(count - 1) * 2 * sizeof *offsets);
-    if (!offsets) {
-        PyErr_NoMemory();
-        return -1;
-    }
     for (Py_ssize_t i = 1; i < count; i++) {
         const size_t *pair = slots + 2 * i;
         Py_ssize_t *kept = offsets + 2 * (i - 1);
@@ -1090,6 +1121,21 @@ static int keep_offsets(Match *match, const Haystack *haystack, const size_t *sl
         Position end = position;
         kept[1] = (Py_ssize_t)move_to(&end, haystack, pair[1]);
     }
+}
+
+/* Keeps the offsets of all groups but the whole match. Offsets in bytes are those of the slots: HANNEDDOIS_NO_OFFSET is -1 there. */
+static inline int keep_offsets(Match *match, const Haystack *haystack, const size_t *slots, Py_ssize_t count)
+{
+    Py_ssize_t *offsets = count - 1 <= FEW_GROUPS ? match->few : malloc((size_t)(count - 1) * 2 * sizeof *offsets);
+    if (!offsets) {
+        PyErr_NoMemory();
+        return -1;
+    }
+    if (haystack->has_characters)
+        count_offsets(match, haystack, slots, count, offsets);
+    else
+        for (Py_ssize_t i = 0; i < 2 * (count - 1); i++)
+            offsets[i] = (Py_ssize_t)slots[2 + i];
     match->offsets = offsets;
     return 0;
 }
@@ -1192,7 +1238,8 @@ static PyObject *group_of(PyObject *self, PyObject *group)
     Py_ssize_t start, end;
     if (find_span(self, group, &start, &end) < 0)
         return NULL;
-    return start < 0 ? new_reference(Py_None) : part_of(((Match *)self)->haystack, start, end);
+    PyObject *haystack = ((Match *)self)->haystack;
+    return start < 0 ? new_reference(Py_None) : part_of(haystack, constant_bytes_of(haystack), start, end);
 }
 
 static PyObject *match_group(PyObject *self, PyObject *const *args, Py_ssize_t nargs)
@@ -1208,15 +1255,14 @@ static PyObject *match_group(PyObject *self, PyObject *const *args, Py_ssize_t n
     return parts;
 }
 
-/* The part of a group from 1 on, or what stands for one that took no part. */
-static PyObject *part_or(Match *match, const Py_ssize_t *offsets, Py_ssize_t number, PyObject *otherwise)
+/* The part between two offsets, as `part_of`, or what stands for a group that took no part. */
+static inline PyObject *part_or(const Match *match, const char *bytes, const Py_ssize_t *pair, PyObject *otherwise)
 {
-    const Py_ssize_t *pair = offsets + 2 * (number - 1);
-    return pair[0] < 0 ? new_reference(otherwise) : part_of(match->haystack, pair[0], pair[1]);
+    return pair[0] < 0 ? new_reference(otherwise) : part_of(match->haystack, bytes, pair[0], pair[1]);
 }
 
-/* The only parameter of groups and groupdict. */
-static int parse_default(const char *name, PyObject *const *args, Py_ssize_t nargs, PyObject *keywords, PyObject **parsed)
+/* The only parameter of groups and groupdict, if there is any argument. */
+static __attribute__((noinline)) int parse_default_of(const char *name, PyObject *const *args, Py_ssize_t nargs, PyObject *keywords, PyObject **parsed)
 {
     Py_ssize_t count = keywords ? PyTuple_Size(keywords) : 0;
     *parsed = nargs + count ? args[0] : Py_None;
@@ -1231,6 +1277,12 @@ static int parse_default(const char *name, PyObject *const *args, Py_ssize_t nar
     return 0;
 }
 
+static inline int parse_default(const char *name, PyObject *const *args, Py_ssize_t nargs, PyObject *keywords, PyObject **parsed)
+{
+    *parsed = Py_None;
+    return nargs || keywords ? parse_default_of(name, args, nargs, keywords, parsed) : 0;
+}
+
 static PyObject *match_groups(PyObject *self, PyObject *const *args, Py_ssize_t nargs, PyObject *keywords)
 {
     Match *match = (Match *)self;
@@ -1240,9 +1292,10 @@ static PyObject *match_groups(PyObject *self, PyObject *const *args, Py_ssize_t 
         return NULL;
     const Py_ssize_t *offsets = count > 1 ? offsets_of(match, count) : match->few;
     PyObject *parts = offsets ? PyTuple_New(count - 1) : NULL;
-    for (Py_ssize_t i = 1; parts && i < count; i++) {
-        PyObject *part = part_or(match, offsets, i, otherwise);
-        if (!part || PyTuple_SetItem(parts, i - 1, part) < 0)
+    const char *bytes = constant_bytes_of(match->haystack);
+    for (Py_ssize_t i = 0; parts && i < count - 1; i++) {
+        PyObject *part = part_or(match, bytes, offsets + 2 * i, otherwise);
+        if (!part || PyTuple_SetItem(parts, i, part) < 0)
             Py_CLEAR(parts);
     }
     return parts;
@@ -1258,11 +1311,12 @@ static PyObject *match_groupdict(PyObject *self, PyObject *const *args, Py_ssize
     PyObject *names = PyTuple_GetItem(((Matcher *)match->regex)->names, match->pattern);
     const Py_ssize_t *offsets = count > 1 ? offsets_of(match, count) : match->few;
     PyObject *parts = offsets ? PyDict_New() : NULL;
+    const char *bytes = constant_bytes_of(match->haystack);
     for (Py_ssize_t i = 1; parts && i < count; i++) {
         PyObject *name = PyTuple_GetItem(names, i);
         if (name == Py_None)
             continue;
-        PyObject *part = part_or(match, offsets, i, otherwise);
+        PyObject *part = part_or(match, bytes, offsets + 2 * (i - 1), otherwise);
         if (!part || PyDict_SetItem(parts, name, part) < 0)
             Py_CLEAR(parts);
         Py_XDECREF(part);
@@ -1437,13 +1491,28 @@ static inline const uint8_t *few_bytes_of(Matcher *self, PyObject *object, Py_ss
     return (const uint8_t *)bytes;
 }
 
-/* Searches few bytes. The interpreter's lock is kept, so nobody else can use the handle, and it isn't taken out of its stock. */
+/* The bytes of the only argument of a search, if they are few, and one call with an idle handle searches them. Otherwise NULL. */
+static inline const uint8_t *plain_bytes_of(Matcher *self, PyObject *const *args, Py_ssize_t nargs, PyObject *keywords, Py_ssize_t *length)
+{
+    if (nargs != 1 || keywords || !self->has_plain_searches || self->stock.idle_count == 0)
+        return NULL;
+    const uint8_t *bytes = few_bytes_of(self, args[0], length);
+    if (!bytes)
+        PyErr_Clear();
+    return bytes;
+}
+
+/* A handle for a search of few bytes. The interpreter's lock is kept, so nobody else can use it, and it isn't taken out of its stock. */
+static inline hanneddois_regex *idle_handle(Matcher *self)
+{
+    return &self->stock.idle[self->stock.idle_count - 1];
+}
+
 static inline PyObject *search_few(Matcher *self, PyObject *object, const uint8_t *bytes, Py_ssize_t length)
 {
     hanneddois_match match;
     hanneddois_error error;
-    hanneddois_regex *handle = &self->stock.idle[self->stock.idle_count - 1];
-    hanneddois_status status = hanneddois_find_at(handle, bytes, (size_t)length, 0, &match, &error);
+    hanneddois_status status = hanneddois_find_at(idle_handle(self), bytes, (size_t)length, 0, &match, &error);
     if (status == HANNEDDOIS_OK) {
         Place place = {0, 0, length, 0, length};
         return (PyObject *)make_match(self, object, &match, match.start, match.end, &place);
@@ -1458,13 +1527,8 @@ static PyObject *matcher_search(PyObject *object, PyObject *const *args, Py_ssiz
 {
     Matcher *self = (Matcher *)object;
     Py_ssize_t length;
-    if (nargs == 1 && !keywords && self->stock.idle_count > 0 && !self->has_empty_loops && !(self->options.flags & HANNEDDOIS_UTF8)) {
-        const uint8_t *bytes = few_bytes_of(self, args[0], &length);
-        if (bytes)
-            return search_few(self, args[0], bytes, length);
-        PyErr_Clear();
-    }
-    return find_parsed(object, args, nargs, keywords, 0);
+    const uint8_t *bytes = plain_bytes_of(self, args, nargs, keywords, &length);
+    return bytes ? search_few(self, args[0], bytes, length) : find_parsed(object, args, nargs, keywords, 0);
 }
 
 /* How many bytes the character has that ends at an offset above 0; if none ends there, the byte before it is one. */
@@ -1567,6 +1631,15 @@ static PyObject *matcher_fullmatch(PyObject *self, PyObject *const *args, Py_ssi
     return match_parsed("fullmatch", self, args, nargs, keywords, 1);
 }
 
+/* What a test for a match returns to Python. */
+static PyObject *reported(hanneddois_status status, const hanneddois_error *error)
+{
+    if (!is_failure(status))
+        return PyBool_FromLong(status == HANNEDDOIS_OK);
+    raise_error(error);
+    return NULL;
+}
+
 static PyObject *is_match(Matcher *self, const Haystack *haystack)
 {
     Search search;
@@ -1582,18 +1655,21 @@ static PyObject *is_match(Matcher *self, const Haystack *haystack)
     else
         status = hanneddois_is_match(&search.handle, haystack->bytes, haystack->length, &error);
     end_search(&search);
-    if (!is_failure(status))
-        return PyBool_FromLong(status == HANNEDDOIS_OK);
-    raise_error(&error);
-    return NULL;
+    return reported(status, &error);
 }
 
-static PyObject *matcher_is_match(PyObject *self, PyObject *const *args, Py_ssize_t nargs, PyObject *keywords)
+static PyObject *matcher_is_match(PyObject *object, PyObject *const *args, Py_ssize_t nargs, PyObject *keywords)
 {
+    Matcher *self = (Matcher *)object;
     Haystack haystack;
-    if (parse_haystack((Matcher *)self, "is_match", args, nargs, keywords, &haystack) < 0)
+    hanneddois_error error;
+    Py_ssize_t length;
+    const uint8_t *bytes = plain_bytes_of(self, args, nargs, keywords, &length);
+    if (bytes)
+        return reported(hanneddois_is_match(idle_handle(self), bytes, (size_t)length, &error), &error);
+    if (parse_haystack(self, "is_match", args, nargs, keywords, &haystack) < 0)
         return NULL;
-    PyObject *result = is_match((Matcher *)self, &haystack);
+    PyObject *result = is_match(self, &haystack);
     close_haystack(&haystack);
     return result;
 }
@@ -1669,22 +1745,30 @@ static int choose_width(Iterator *self)
     return want_groups(scan);
 }
 
+/* Finds further matches, once all were returned. Returns whether there is one; if not, an error may be raised. */
+static __attribute__((noinline)) int refill(Iterator *self)
+{
+    Scan *scan = &self->scan;
+    if (scan->is_searching) {
+        PyErr_SetString(PyExc_ValueError, "another thread is in this iterator");
+        return 0;
+    }
+    if (scan->status == HANNEDDOIS_OK && choose_width(self) < 0)
+        return 0;
+    if (has_more(scan))
+        return 1;
+    if (scan->status != HANNEDDOIS_OK)
+        end_scan(scan);
+    return 0;
+}
+
 static PyObject *iterator_next(PyObject *object)
 {
     Iterator *self = (Iterator *)object;
     Scan *scan = &self->scan;
-    if (scan->is_searching) {
-        PyErr_SetString(PyExc_ValueError, "another thread is in this iterator");
-        return NULL;
-    }
-    if (scan->next == scan->count && scan->status == HANNEDDOIS_OK && choose_width(self) < 0)
+    if (scan->next == scan->count && !refill(self))
         return NULL;
     const hanneddois_match *row = next_row(scan);
-    if (!row) {
-        if (scan->status != HANNEDDOIS_OK)
-            end_scan(scan);
-        return NULL;
-    }
     size_t start = move_to(&self->position, &scan->haystack, row->start);
     Position position = self->position;
     Match *match =
