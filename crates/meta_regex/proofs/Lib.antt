@@ -1,3 +1,4 @@
+mod AnchoredLemmas
 mod BestLemmas
 mod FallbackLemmas
 mod FoundLemmas
@@ -8,3 +9,4 @@ pub mod NextLemmas
 mod OrderLemmas
 mod RefusalLemmas
 mod WordlessLemmas
+mod StartLemmas

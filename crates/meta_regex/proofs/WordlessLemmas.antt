@@ -42,7 +42,7 @@ use Rattle.meta_regex.proofs.FallbackLemmas.{which_slowly}
 use Rattle.meta_regex.proofs.FoundLemmas.{read_as_many}
 
 -- the alternation matches what one of the patterns does
-one_of_patterns : (h : List ℕ) (i j : ℕ) (res : List Re) → Matches h (alt_all res) i j → (p : ℕ) × IsMatchOf res h p i j
+pub one_of_patterns : (h : List ℕ) (i j : ℕ) (res : List Re) → Matches h (alt_all res) i j → (p : ℕ) × IsMatchOf res h p i j
 unfolding in_ranges
 one_of_patterns h i j [] m = absurd (true≢false (sym m.2))
 one_of_patterns h i j (a ∷ res) (inl m) = (0, record { pattern = a; listed = refl; matches = m })

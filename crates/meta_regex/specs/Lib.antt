@@ -4,3 +4,4 @@ pub mod Fallbacks
 pub mod Caches
 pub mod Wordless
 pub mod Lists
+pub mod Starts

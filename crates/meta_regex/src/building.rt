@@ -2,6 +2,7 @@
 ghost use Rattle.std.specs.Prelude.{◌≡◌, All, Some, false, true, IfErr, IfNone, IfOk, IfSome, map};
 ghost use Rattle.hir_core.specs.Facts.{LoopsRead};
 ghost use Rattle.hirscan.specs.Loops.{first_empty_loop};
+ghost use Rattle.pattern_search.specs.Texts.{AllMean};
 ghost use Rattle.meta_regex.specs.Options.{config_of};
 ghost use Rattle.meta_regex.specs.Regexes.{AreReportedOf, IsKindError};
 
@@ -14,10 +15,12 @@ use regex_pair::regex::Regex;
 use search_types::MatchKind;
 use std::alloc::Global;
 
-/// Two automata built from patterns, and whether the body of every unbounded repetition in these consumes at least one byte.
+/// Two automata built from patterns, the trees of these, and whether the body of every unbounded repetition in them consumes at least one
+/// byte.
 #[derive(Drop)]
 pub(crate) struct Built {
     pub(crate) pair: Regex,
+    pub(crate) trees: Vec<Hir>,
     pub(crate) loops: bool,
 }
 
@@ -44,6 +47,7 @@ pub(crate) fn build_pair(
     ensures made { IfOk result (λ b. (it : AreReportedOf (config_of options.now) (map (λ t. t.now) texts.now) kind b.loops b.pair)
         ×
         (options.now.empty_loops ≡ false → b.loops ≡ true)) }
+    ensures trees { IfOk result (λ b. AllMean (config_of options.now) (map (λ t. t.now) texts.now) b.trees.items) }
     ensures refused { IfErr result (IsKindError kind options.now (map (λ t. t.now) texts.now)) }
 {
     let trees = match parse_all(alloc, texts, &options.syntax) {
@@ -59,5 +63,5 @@ pub(crate) fn build_pair(
         Ok(pair) => pair,
         Err(e) => return Err(NewError::Build(e)),
     };
-    Ok(Built { pair, loops })
+    Ok(Built { pair, trees, loops })
 }

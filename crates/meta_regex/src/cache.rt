@@ -14,8 +14,12 @@ use crate::fallback::{Fallback, fallbacks_of};
 use crate::overlapping::OverlappingSearcher;
 use crate::texts::borrowed;
 use crate::wordless::{WordlessSearcher, wordless_pair};
+use literal_search::Effort;
 use search_types::MatchKind;
 use std::alloc::{AllocError, Global};
+
+/// How many skipped bytes make up for the search that begins at a literal.
+const CANDIDATE: usize = 128;
 
 /// The caches of a regex's automata, and what its searches made later. It is usable only with the regex for which it was made.
 ///
@@ -28,6 +32,8 @@ pub struct Cache {
     pub(crate) fallbacks: Option<Vec<Fallback>>,
     pub(crate) wordless: Option<WordlessSearcher>,
     pub(crate) wordless_overlapping: Option<OverlappingSearcher>,
+    /// Whether searches for literals pay.
+    pub(crate) effort: Effort,
 }
 
 impl Cache {
@@ -79,6 +85,7 @@ impl Regex {
             fallbacks: None,
             wordless: None,
             wordless_overlapping: None,
+            effort: Effort::with_price(CANDIDATE),
         })
     }
 

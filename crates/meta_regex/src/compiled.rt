@@ -2,10 +2,13 @@
 ghost use Rattle.std.specs.Prelude.{◌≡◌, IfErr, IfOk, length, map, string_bytes};
 ghost use Rattle.search_types.specs.declared.match_kind.MatchKind.TheVariants.{LeftmostFirst};
 ghost use Rattle.meta_regex.specs.Regexes.{AreReportedOf, IsMadeOf, IsNewError, config_by};
+ghost use Rattle.meta_regex.specs.Starts.{AreStartsOf};
 
 use crate::building::build_pair;
 use crate::errors::NewError;
+use crate::literal_starts::LiteralStarts;
 use crate::options::Options;
+use crate::short_loops::all_have_short_loops;
 use crate::texts::owned;
 use search_types::MatchKind;
 use std::alloc::Global;
@@ -21,6 +24,10 @@ pub struct Regex {
     texts: Vec<String>,
     options: Options,
     loops: bool,
+    /// What literals say of where matches start.
+    starts: LiteralStarts,
+    /// Whether a try to match at one offset is expected to read few bytes.
+    short: bool,
 }
 
 impl Model for Regex {
@@ -28,12 +35,14 @@ impl Model for Regex {
     ghost use Rattle.search_types.specs.declared.match_kind.MatchKind.TheVariants.{LeftmostFirst};
     ghost use Rattle.meta_regex.specs.Options.{config_of};
     ghost use Rattle.meta_regex.specs.Regexes.{RegexValue, AreReportedOf};
+    ghost use Rattle.meta_regex.specs.Starts.{AreStartsOf};
 
     ghost Value = { RegexValue };
 
     ghost view = { λ r. record { options = r.options; texts = map string_bytes r.texts.items; loops = r.loops; pair = r.pair } };
 
-    ghost invariant = { λ r. AreReportedOf (config_of r.options) (map string_bytes r.texts.items) LeftmostFirst r.loops r.pair };
+    ghost invariant = { λ r. AreReportedOf (config_of r.options) (map string_bytes r.texts.items) LeftmostFirst r.loops r.pair
+        × AreStartsOf (config_of r.options) (map string_bytes r.texts.items) r.starts };
 }
 
 impl Regex {
@@ -50,11 +59,15 @@ impl Regex {
             Ok(copies) => copies,
             Err(_) => return Err(NewError::NoMemory),
         };
+        let starts = LiteralStarts::of(alloc, &built.trees);
+        let short = all_have_short_loops(&built.trees);
         Ok(Regex {
             pair: built.pair,
             texts: copies,
             options: *options,
             loops: built.loops,
+            starts,
+            short,
         })
     }
 
@@ -92,5 +105,23 @@ impl Regex {
         ensures of { AreReportedOf (config_by self.now) self.now.texts LeftmostFirst self.now.loops self.now.pair }
     {
         &self.pair
+    }
+
+    /// What literals say of where matches start.
+    pub(crate) fn starts(&self) -> &LiteralStarts
+        ensures { AreStartsOf (config_by self.now) self.now.texts result.now }
+    {
+        &self.starts
+    }
+
+    /// Whether offsets at which a match may start are tried one by one: matches begin with literals, and a try is expected to read few bytes.
+    pub(crate) fn tries_starts(&self) -> bool {
+        if !self.short {
+            return false;
+        }
+        match self.starts {
+            LiteralStarts::Begins(_) => true,
+            _ => false,
+        }
     }
 }

@@ -5,6 +5,7 @@
 //! the toolchain's regexes of the same patterns answer.
 #![tactic(auto)]
 
+mod anchored;
 mod building;
 mod cache;
 mod compiled;
@@ -12,10 +13,12 @@ mod errors;
 mod fallback;
 mod find_all;
 mod found_match;
+mod literal_starts;
 mod matching_patterns;
 mod options;
 mod overlapping;
 mod searching;
+mod short_loops;
 mod texts;
 mod wordless;
 

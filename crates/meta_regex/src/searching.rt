@@ -1,13 +1,15 @@
 //! Searches for one match.
-ghost use Rattle.std.specs.Prelude.{◌≡◌, ◌≤◌, ◌<◌, All, IfErr, IfOk, length, option_map, true};
+ghost use Rattle.std.specs.Prelude.{◌≡◌, ◌≤◌, ◌<◌, All, IfErr, IfOk, IfSome, length, option_map, true};
 ghost use Rattle.regex_syntax.specs.declared.Config.{Config as TextConfig};
 ghost use Rattle.search_core.specs.Utf8.{IsValidText};
 ghost use Rattle.pattern_search.specs.Searches.{whole_search};
 ghost use Rattle.regex_pair.specs.Pairs.{AreCachesOf};
 ghost use Rattle.meta_regex.specs.Caches.{IsCacheOf};
+ghost use Rattle.meta_regex.specs.Starts.{HasSoughtSpan, IsSought};
 ghost use Rattle.meta_regex.specs.Wordless.{MayBeginAt};
 ghost use Rattle.meta_regex.specs.Regexes.{HasFoundStart, HasFoundSpan, IsSearchError, IsReported, config_by, row_of};
 
+use crate::anchored::Sought;
 use crate::cache::Cache;
 use crate::compiled::Regex;
 use crate::errors::SearchError;
@@ -52,6 +54,14 @@ fn check_text(haystack: &[u8], utf8: bool) -> Result<(), SearchError>
     match str::from_utf8(haystack) {
         Ok(_) => Ok(()),
         Err(e) => Err(SearchError::NotUtf8(e.valid_up_to())),
+    }
+}
+
+/// About how many bytes a search from this offset on examined.
+fn searched_len(found: &Option<FoundMatch>, haystack: &[u8], start: usize) -> usize {
+    match found {
+        Some(it) => it.end.saturating_sub(start),
+        None => haystack.len().saturating_sub(start),
     }
 }
 
@@ -211,9 +221,25 @@ impl Regex {
         }
     }
 
-    /// A search of a haystack that is UTF-8 if the options require it, which [`check`](Regex::check) tests. It is
-    /// [`find_at`](Regex::find_at) without that test, for several searches of one haystack.
-    pub fn search(
+    /// The offset of the next literal with which a match may begin: a search may begin there instead. If there is none, there is no match.
+    pub(crate) fn next_literal(
+        &self,
+        cache: &mut Cache,
+        haystack: &[u8],
+        from: usize,
+    ) -> Option<usize>
+        requires own { IsCacheOf self.now cache.old }
+        requires within { from ≤ length haystack.now }
+        ensures own { IsCacheOf self.now cache.new }
+        ensures from { IfSome result (λ start. from ≤ start) }
+        ensures begins { MayBeginAt (config_by self.now) self.now.texts haystack.now from result }
+    {
+        see_bytes(haystack);
+        self.starts().next_start(&mut cache.effort, haystack, from)
+    }
+
+    /// A search without literals.
+    fn search_on(
         &self,
         alloc: Global,
         cache: &mut Cache,
@@ -239,6 +265,54 @@ impl Regex {
             Ok(found) => Ok(found),
             Err(e) => Err(e),
         }
+    }
+
+    /// Where a search has to begin by the literals of matches, or the match that is found by them.
+    fn sought_start(&self, cache: &mut Cache, haystack: &[u8], from: usize) -> Sought
+        requires own { IsCacheOf self.now cache.old }
+        requires within { from ≤ length haystack.now }
+        requires valid { (config_by self.now).utf8 ≡ true → IsValidText haystack.now }
+        ensures own { IsCacheOf self.now cache.new }
+        ensures sought { IsSought (config_by self.now) self.now.texts haystack.now from result }
+        ensures preferred { self.now.loops ≡ true → HasSoughtSpan (config_by self.now) self.now.texts haystack.now from result }
+    {
+        if self.tries_starts() {
+            return self.try_starts(cache, haystack, from);
+        }
+        match self.next_literal(cache, haystack, from) {
+            Some(start) => Sought::From(start),
+            None => Sought::Missing,
+        }
+    }
+
+    /// A search of a haystack that is UTF-8 if the options require it, which [`check`](Regex::check) tests. It is
+    /// [`find_at`](Regex::find_at) without that test, for several searches of one haystack.
+    pub fn search(
+        &self,
+        alloc: Global,
+        cache: &mut Cache,
+        haystack: &[u8],
+        from: usize,
+    ) -> Result<Option<FoundMatch>, SearchError>
+        requires own { IsCacheOf self.now cache.old }
+        requires within { from ≤ length haystack.now }
+        requires valid { (config_by self.now).utf8 ≡ true → IsValidText haystack.now }
+        ensures own { IsCacheOf self.now cache.new }
+        ensures found { IfOk result (HasFoundStart (config_by self.now) self.now.texts haystack.now from) }
+        ensures preferred { self.now.loops ≡ true → IfOk result (HasFoundSpan (config_by self.now) self.now.texts haystack.now from) }
+        ensures refused { IfErr result (IsSearchError (config_by self.now) haystack.now) }
+    {
+        let start = match self.sought_start(cache, haystack, from) {
+            Sought::Found(found) => return Ok(Some(found)),
+            Sought::Missing => return Ok(None),
+            Sought::From(start) => start,
+        };
+        let found = match self.search_on(alloc, cache, haystack, start) {
+            Ok(found) => found,
+            Err(e) => return Err(e),
+        };
+        cache.effort.pass(searched_len(&found, haystack, start));
+        Ok(found)
     }
 
     /// The leftmost match from an offset on, and of several that start there the preferred one. Look-around assertions see what precedes

@@ -1,13 +1,23 @@
 use Rattle.std.proofs.Common.{List, ℕ, refl, subst, sym}
+use Rattle.hir_core.specs.Tree.{Tree, alternation}
 use Rattle.search_types.specs.declared.match_kind.MatchKind.TheVariants.{LeftmostFirst}
+use Rattle.pattern_search.specs.Texts.{AllMean}
 use Rattle.meta_regex.specs.Options.{config_of}
 use Rattle.meta_regex.specs.Regexes.{AreReportedOf}
+use Rattle.meta_regex.specs.Starts.{DescribesStarts}
 use Rattle.meta_regex.proofs.compiled.Regex.new.Goals as goal
 
 pub invariant_of-result : goal.invariant_of-result
-invariant_of-result c =
-    subst (λ (ts : List (List ℕ)). AreReportedOf (config_of c.args.options.now) ts LeftmostFirst c.in-Ok.built.loops c.in-Ok.built.pair)
-    (sym c.in-Ok-owned.ensures) c.in-Ok.ensures.made.0
+invariant_of-result c = (
+  subst (λ (ts : List (List ℕ)). AreReportedOf (config_of c.args.options.now) ts LeftmostFirst c.in-Ok.built.loops c.in-Ok.built.pair)
+      (sym c.in-Ok-owned.ensures) c.in-Ok.ensures.made.0,
+  record {
+    trees = c.in-Ok.built.trees.items;
+    mean = subst (λ (ts : List (List ℕ)). AllMean (config_of c.args.options.now) ts c.in-Ok.built.trees.items) (sym c.in-Ok-owned.ensures)
+        c.in-Ok.ensures.trees;
+    described = subst (λ (xs : List Tree). DescribesStarts c.of-starts.result (alternation xs)) c.deref.ensures.value c.of-starts.ensures;
+  },
+)
 
 pub returns-clause-made : goal.returns-clause-made
 returns-clause-made c = record {
