@@ -27,7 +27,7 @@ fn is_short_body(body: &Hir) -> bool {
     }
 }
 
-/// Whether a match of the tree, or what looks like one, ends within few bytes of typical text: in each unbounded repetition, the body reads no
+/// Whether a match of the tree, or what looks like one, ends within few bytes of typical text: in each unbounded repetition, the body consumes no
 /// line feed, or it is a class without letters.
 #[cycle(has_short_loops)]
 pub(crate) fn has_short_loops(x: &Hir) -> bool {
