@@ -1,9 +1,9 @@
 -- The automaton of a build gives up at no byte.
-use Rattle.std.proofs.Common.{◌≡◌, ◌∙◌, ℕ, zero, suc, Bool, true, false, List, [], ◌∷◌, ap, refl, replicate, if◌then◌else◌}
+use Rattle.std.proofs.Common.{◌≡◌, ◌∙◌, ℕ, zero, suc, Bool, true, false, List, ap, refl, replicate, if◌then◌else◌}
 use Rattle.std.specs.Prelude.{◌&&◌}
 use Rattle.search_core.specs.ByteSets.{has}
 use Rattle.hir_core.specs.Tree.{Tree}
-use Rattle.lazy_dfa.specs.ConfigValue.{by_hand, no_bytes}
+use Rattle.lazy_dfa.specs.ConfigValue.{no_bytes}
 use Rattle.lazy_dfa.specs.Quits.{with_high_bytes}
 use Rattle.hirscan.specs.Built.{quit_bytes_for, use_unicode_words}
 use Rattle.stream_regex.specs.StreamRegexes.{dfa_options_of}
