@@ -1,0 +1,2 @@
+mod BuiltLemmas
+mod MeaningLemmas

@@ -1,0 +1,2 @@
+pub mod StreamRegexes
+pub mod Meaning
