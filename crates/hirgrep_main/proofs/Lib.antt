@@ -1,3 +1,5 @@
 mod SelectingLemmas
+pub mod BinaryLemmas
 pub mod GivenLemmas
 pub mod OutcomeLemmas
+pub mod SmartLemmas
