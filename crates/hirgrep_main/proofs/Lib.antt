@@ -2,4 +2,5 @@ mod SelectingLemmas
 pub mod BinaryLemmas
 pub mod GivenLemmas
 pub mod OutcomeLemmas
+pub mod ReportLemmas
 pub mod SmartLemmas

@@ -60,8 +60,8 @@ after_item s c = if s.depth == 0 then after_plain s c else after_class_char s c
 
 -- ---- after a backslash
 
-abbrev pub is_class : ℕ → Bool
-is_class c = list_any (λ d. c == d) (codes "dDsSwWbBAz")
+abbrev pub is_class_letter : ℕ → Bool
+is_class_letter c = list_any (λ d. c == d) (codes "dDsSwWbBAz")
 
 -- \x41, \u0041, \U00000041
 abbrev pub digits_of : ℕ → ℕ
@@ -71,32 +71,32 @@ abbrev pub after_escape : Scan → ℕ → Scan
 after_escape s c =
     if c == 112 || c == 80 then in_mode s Property
     else if c == 120 || (c == 117 || c == 85) then record s { mode = Digits (digits_of c); value = 0 }
-    else if is_class c then in_mode s Item
+    else if is_class_letter c then in_mode s Item
     else after_literal s c
 
 abbrev pub after_property : Scan → ℕ → Scan
 after_property s c = if c == 123 then in_mode s (Until 125) else in_mode s Item
 
 -- The character with the number that was read, if there is one.
-abbrev pub is_scalar : ℕ → Bool
-is_scalar n = nat_lt n 55296 || nat_lt 57343 n && nat_lt n 1114112
+abbrev pub is_character : ℕ → Bool
+is_character n = nat_lt n 55296 || nat_lt 57343 n && nat_lt n 1114112
 
-abbrev pub with_value : Scan → Scan
-with_value s = if is_scalar s.value then after_literal s s.value else in_mode s Item
+abbrev pub after_value : Scan → Scan
+after_value s = if is_character s.value then after_literal s s.value else in_mode s Item
 
-abbrev pub with_digit : Scan → ℕ → Scan
-with_digit s c =
+abbrev pub after_hex_digit : Scan → ℕ → Scan
+after_hex_digit s c =
     if nat_lt (digit_value c) 16 then record s { value = if nat_lt s.value 1114112 then s.value * 16 + digit_value c else s.value }
     else s
 
 abbrev pub after_digit : Scan → ℕ → ℕ → Scan
 after_digit s left c =
     if c == 123 then in_mode s Braced
-    else if nat_le left 1 then with_value (with_digit s c)
-    else in_mode (with_digit s c) (Digits (left - 1))
+    else if nat_le left 1 then after_value (after_hex_digit s c)
+    else in_mode (after_hex_digit s c) (Digits (left - 1))
 
 abbrev pub after_braced : Scan → ℕ → Scan
-after_braced s c = if c == 125 then with_value s else with_digit s c
+after_braced s c = if c == 125 then after_value s else after_hex_digit s c
 
 -- ---- groups
 
@@ -140,12 +140,12 @@ next_by Negated s c = after_begin s c
 next_by Nested s c = after_nested s c
 next_by (Until end) s c = after_until s end c
 
-abbrev pub next_of : Scan → ℕ → Scan
-next_of s c = next_by s.mode s c
+abbrev pub after_char : Scan → ℕ → Scan
+after_char s c = next_by s.mode s c
 
 abbrev pub scan_chars : Scan → List ℕ → Scan
 scan_chars s [] = s
-scan_chars s (c ∷ cs) = scan_chars (next_of s c) cs
+scan_chars s (c ∷ cs) = scan_chars (after_char s c) cs
 
 abbrev pub scan_texts : Scan → List (List ℕ) → Scan
 scan_texts s [] = s

@@ -1,5 +1,7 @@
 -- What is printed of one input, and how many of its lines are counted.
-use Rattle.std.specs.Prelude.{ℕ, Bool, List}
+use Rattle.std.specs.Prelude.{◌≡◌, ℕ, Bool, List, take, Option, Result, IfErr, IfOk, OnOk}
+use Rattle.std.specs.Io.KnownBytes.{Appends}
+use Rattle.grep_core.specs.declared.fault.Fault.{Fault}
 use Rattle.grep_core.specs.Report.{LineMatcher, counted_as, report, selected_count}
 use Rattle.grep_core.specs.declared.separator_state.SeparatorState.{SeparatorState}
 use Rattle.grep_core.specs.declared.output_options.OutputOptions.{OutputOptions}
@@ -27,3 +29,10 @@ report_of t f name known text = report_for t (is_binary text) f name known (sear
 
 abbrev pub count_of : Task → LineMatcher → List ℕ → ℕ
 count_of t f text = count_for t (is_binary text) f (searched_bytes t.asked.now.binary (is_binary text) text)
+
+-- What the search of an input wrote and returned, of an output of these bytes and for so many counted lines. After an error, a beginning of
+-- the output was written.
+pub record IsInputReported (old new : Option (List ℕ)) (result : Result ℕ Fault) (all : List ℕ) (count : ℕ) : Type 0 where
+  pub written : OnOk result (Appends old new all)
+  pub counted : IfOk result (λ n. n ≡ count)
+  pub part : IfErr result (λ _. (n : ℕ) × Appends old new (take n all))

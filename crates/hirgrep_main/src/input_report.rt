@@ -1,10 +1,9 @@
 //! The report of one input.
-ghost use Rattle.std.specs.Prelude.{◌≡◌, ℕ, ◌++◌, IfErr, IfOk, IfSome, OnOk, take};
-ghost use Rattle.std.specs.Io.KnownBytes.{Appends};
+ghost use Rattle.std.specs.Prelude.{◌≡◌, ◌++◌, IfSome};
 ghost use Rattle.grep_core.specs.Reporting.{needs_spans};
 ghost use Rattle.grep_core.specs.Searchers.{SearchesFor, found_by};
 ghost use Rattle.hirgrep_main.specs.Binaries.{has_zero, searched_bytes};
-ghost use Rattle.hirgrep_main.specs.Tasks.{count_for, count_of, options_for, options_in, report_for, report_of};
+ghost use Rattle.hirgrep_main.specs.Tasks.{IsInputReported, count_for, count_of, options_for, options_in, report_for, report_of};
 
 use crate::binary::{Binary, is_noticed, options_by};
 use crate::first_bytes::{Searched, has_zero, read_first};
@@ -45,14 +44,9 @@ fn report_reader<R: Read, W: Write>(
     writer: &mut W,
 ) -> Result<u64, Fault>
     ensures same { finder.new ≡ finder.old }
-    ensures reported { OnOk result ((by : SearchesFor finder.old (needs_spans task.entry.asked.now.what)) →
-        IfSome (R.remaining reader.old) (λ bytes. Appends (W.contents writer.old) (W.contents writer.new)
-        (report_for task.entry zero (found_by by) name.now known bytes))) }
-    ensures selected { IfOk result (λ n. (by : SearchesFor finder.old (needs_spans task.entry.asked.now.what)) →
-        IfSome (R.remaining reader.old) (λ bytes. n ≡ count_for task.entry zero (found_by by) bytes)) }
-    ensures fault { IfErr result (λ _. (by : SearchesFor finder.old (needs_spans task.entry.asked.now.what)) →
-        IfSome (R.remaining reader.old) (λ bytes. (n : ℕ) × Appends (W.contents writer.old) (W.contents writer.new)
-        (take n (report_for task.entry zero (found_by by) name.now known bytes)))) }
+    ensures reported { (by : SearchesFor finder.old (needs_spans task.entry.asked.now.what)) → IfSome (R.remaining reader.old) (λ bytes.
+        IsInputReported (W.contents writer.old) (W.contents writer.new) result
+        (report_for task.entry zero (found_by by) name.now known bytes) (count_for task.entry zero (found_by by) bytes)) }
 {
     report_input(
         alloc,
@@ -64,6 +58,19 @@ fn report_reader<R: Read, W: Write>(
         reader,
         writer,
     )
+}
+
+/// Reports that a binary input has a selected line, if that is printed instead of its lines.
+fn report_notice(
+    rt: &HostRuntime,
+    task: Task<'_>,
+    name: &str,
+    zero: bool,
+    reported: Result<u64, Fault>,
+) {
+    if is_noticed(task.asked.binary, task.asked.what.print, zero, reported) {
+        report_reason(rt, name, "binary file matches");
+    }
 }
 
 /// Searches an input of which these are the first bytes, and a reader has the others.
@@ -78,17 +85,12 @@ fn report_first<R: Read, W: Write>(
     writer: &mut W,
 ) -> Result<u64, Fault>
     ensures same { finder.new ≡ finder.old }
-    ensures reported { OnOk result ((by : SearchesFor finder.old (needs_spans task.entry.asked.now.what)) →
-        IfSome (R.remaining reader.old) (λ text. Appends (W.contents writer.old) (W.contents writer.new)
+    ensures reported { (by : SearchesFor finder.old (needs_spans task.entry.asked.now.what)) → IfSome (R.remaining reader.old) (λ text.
+        IsInputReported (W.contents writer.old) (W.contents writer.new) result
         (report_for task.entry (has_zero first.now) (found_by by) name.now known
-        (searched_bytes task.entry.asked.now.binary (has_zero first.now) (first.now ++ text))))) }
-    ensures selected { IfOk result (λ n. (by : SearchesFor finder.old (needs_spans task.entry.asked.now.what)) →
-        IfSome (R.remaining reader.old) (λ text. n ≡ count_for task.entry (has_zero first.now) (found_by by)
+        (searched_bytes task.entry.asked.now.binary (has_zero first.now) (first.now ++ text)))
+        (count_for task.entry (has_zero first.now) (found_by by)
         (searched_bytes task.entry.asked.now.binary (has_zero first.now) (first.now ++ text)))) }
-    ensures fault { IfErr result (λ _. (by : SearchesFor finder.old (needs_spans task.entry.asked.now.what)) →
-        IfSome (R.remaining reader.old) (λ text. (n : ℕ) × Appends (W.contents writer.old) (W.contents writer.new)
-        (take n (report_for task.entry (has_zero first.now) (found_by by) name.now known
-        (searched_bytes task.entry.asked.now.binary (has_zero first.now) (first.now ++ text)))))) }
 {
     let zero = has_zero(first);
     let mut whole = Searched::new(first.chain(reader), task.asked.binary, zero);
@@ -102,10 +104,38 @@ fn report_first<R: Read, W: Write>(
         &mut whole,
         writer,
     );
-    if is_noticed(task.asked.binary, task.asked.what.print, zero, reported) {
-        report_reason(rt, name, "binary file matches");
-    }
+    report_notice(rt, task, name, zero, reported);
     reported
+}
+
+/// Searches the input of a reader, of which the first bytes decide what is printed.
+fn report_binary<R: Read, W: Write>(
+    rt: &HostRuntime,
+    finder: &mut Finder<'_>,
+    task: Task<'_>,
+    known: SeparatorState,
+    name: &str,
+    reader: &mut R,
+    writer: &mut W,
+) -> Result<u64, Fault>
+    ensures same { finder.new ≡ finder.old }
+    ensures reported { (by : SearchesFor finder.old (needs_spans task.entry.asked.now.what)) → IfSome (R.remaining reader.old) (λ text.
+        IsInputReported (W.contents writer.old) (W.contents writer.new) result
+        (report_of task.entry (found_by by) name.now known text) (count_of task.entry (found_by by) text)) }
+{
+    match read_first(rt.alloc(), reader) {
+        Ok(first) => report_first(
+            rt,
+            finder,
+            task,
+            known,
+            name,
+            first.as_slice(),
+            reader,
+            writer,
+        ),
+        Err(e) => Err(Fault::Read(e.kind())),
+    }
 }
 
 /// Searches the input of a reader, and writes the output for it under this name. If inputs with a zero byte aren't text, the first bytes
@@ -120,20 +150,21 @@ pub fn report_one<R: Read, W: Write>(
     writer: &mut W,
 ) -> Result<u64, Fault>
     ensures same { finder.new ≡ finder.old }
-    ensures reported { OnOk result ((by : SearchesFor finder.old (needs_spans task.entry.asked.now.what)) →
-        IfSome (R.remaining reader.old) (λ text. Appends (W.contents writer.old) (W.contents writer.new)
-        (report_of task.entry (found_by by) name.now known text))) }
-    ensures selected { IfOk result (λ n. (by : SearchesFor finder.old (needs_spans task.entry.asked.now.what)) →
-        IfSome (R.remaining reader.old) (λ text. n ≡ count_of task.entry (found_by by) text)) }
-    ensures fault { IfErr result (λ _. (by : SearchesFor finder.old (needs_spans task.entry.asked.now.what)) →
-        IfSome (R.remaining reader.old) (λ text. (n : ℕ) × Appends (W.contents writer.old) (W.contents writer.new)
-        (take n (report_of task.entry (found_by by) name.now known text)))) }
+    ensures reported { (by : SearchesFor finder.old (needs_spans task.entry.asked.now.what)) → IfSome (R.remaining reader.old) (λ text.
+        IsInputReported (W.contents writer.old) (W.contents writer.new) result
+        (report_of task.entry (found_by by) name.now known text) (count_of task.entry (found_by by) text)) }
 {
-    if task.asked.binary == Binary::AsText {
-        return report_reader(rt.alloc(), finder, task, false, known, name, reader, writer);
-    }
-    match read_first(rt.alloc(), reader) {
-        Ok(first) => report_first(rt, finder, task, known, name, &first, reader, writer),
-        Err(e) => Err(Fault::Read(e.kind())),
+    match task.asked.binary {
+        Binary::AsText => report_reader(
+            rt.alloc(),
+            finder,
+            task,
+            false,
+            known,
+            name,
+            reader,
+            writer,
+        ),
+        _ => report_binary(rt, finder, task, known, name, reader, writer),
     }
 }

@@ -1,8 +1,8 @@
 //! Smart case: whether patterns have literal characters, and a capital letter among them.
 ghost use Rattle.std.specs.Prelude.{◌≡◌, chars, map};
 ghost use Rattle.hirgrep_main.specs.SmartCase.{after_begin, after_class_char, after_digit, after_escape, after_flag, after_group, after_item, after_literal};
-ghost use Rattle.hirgrep_main.specs.SmartCase.{after_nested, after_plain, after_property, closing, deeper, ignores_case, in_mode, is_class, is_operator, is_separator};
-ghost use Rattle.hirgrep_main.specs.SmartCase.{next_of, no_scan, next_pattern, scan_chars, scan_texts, with_digit, with_value, digits_of, after_braced, after_class, after_until};
+ghost use Rattle.hirgrep_main.specs.SmartCase.{after_nested, after_plain, after_property, closing, deeper, ignores_case, in_mode, is_class_letter, is_operator, is_separator};
+ghost use Rattle.hirgrep_main.specs.SmartCase.{after_char, no_scan, next_pattern, scan_chars, scan_texts, after_hex_digit, after_value, digits_of, after_braced, after_class, after_until};
 
 /// What is read next of a pattern.
 #[derive(Clone, Copy, PartialEq, Eq)]
@@ -61,7 +61,7 @@ fn is_separator(c: char) -> bool
 
 /// Whether a backslash before the letter makes a class or a look.
 fn is_class(c: char) -> bool
-    ensures { result ≡ is_class c }
+    ensures { result ≡ is_class_letter c }
 {
     c == 'd'
         || c == 'D'
@@ -235,7 +235,7 @@ impl Scan {
 
     /// Reads the last digit of a character's number, or what ends it.
     fn value(self) -> Scan
-        ensures { result ≡ with_value self }
+        ensures { result ≡ after_value self }
     {
         match char::from_u32(self.value) {
             Some(c) => self.literal(c),
@@ -245,7 +245,7 @@ impl Scan {
 
     /// Reads a digit of a character's number. What is none changes nothing.
     fn with_digit(self, c: char) -> Scan
-        ensures { result ≡ with_digit self c }
+        ensures { result ≡ after_hex_digit self c }
     {
         match c.to_digit(16) {
             Some(digit) => Scan {
@@ -347,7 +347,7 @@ impl Scan {
 
     /// Reads a character.
     fn next(self, c: char) -> Scan
-        ensures { result ≡ next_of self c }
+        ensures { result ≡ after_char self c }
     {
         match self.mode {
             Mode::Item => self.item(c),

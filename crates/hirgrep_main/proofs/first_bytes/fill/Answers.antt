@@ -1,4 +1,4 @@
-use Rattle.std.proofs.Common.{◌∙◌, ◌+◌, sym, subst, ◌≤◌}
+use Rattle.std.proofs.Common.{◌∙◌}
 use Rattle.hirgrep_main.proofs.BinaryLemmas.{consumed_more}
 use Rattle.hirgrep_main.proofs.first_bytes.fill.Goals as goal
 

@@ -1,4 +1,4 @@
-use Rattle.std.proofs.Common.{◌≡◌, arith, get_or, refl}
+use Rattle.std.proofs.Common.{arith, get_or}
 use Rattle.std.proofs.lemmas.List.{get_or_default}
 use Rattle.std.proofs.lemmas.List.Edits.{map_over_more}
 use Rattle.hirgrep_main.specs.Binaries.{zero_as_feed}
