@@ -14,7 +14,7 @@ from .options import CRLF, CRLF_FILES, OPTIONS, PATTERNS, line_choices, pairs
 from .report import report
 
 SEED = 20261130
-RIPGREP_WORDS = ("rg", "--no-config", "--text", "--threads=1", "--no-heading", "--encoding=none")
+RIPGREP_WORDS = ("rg", "--no-config", "--text", "--threads=1", "--encoding=none")
 SMALL = tuple(it for it in FILES if it not in LARGE)
 
 
@@ -65,6 +65,20 @@ LINE_WORDS = [
     (["--passthrough"], ["--passthru"]),
     (["--vimgrep", "-n", "--column"], ["--vimgrep"]),
     (["--vimgrep", "-c"], ["-H", "-c"]),
+    (["-p"], ["--color=always", "--heading", "-n"]),
+    (["-p", "--color=never"], ["--heading", "-n"]),
+    (["-p", "--no-heading"], ["--color=always", "-n"]),
+    (["--no-heading", "-p"], ["--color=always", "-n"]),
+    (["--heading", "--no-heading"], []),
+    (["--heading", "--vimgrep"], ["--vimgrep"]),
+    (["--heading", "-c"], ["-c"]),
+    (["--heading", "-l"], ["-l"]),
+    (["-c", "--count-matches", "-v"], ["-c", "-v"]),
+    (["--count-matches", "-c"], ["-c"]),
+    (["-c", "--count-matches"], ["--count-matches"]),
+    (["--count-matches", "-o"], ["--count-matches"]),
+    (["--count-matches", "-l"], ["-l"]),
+    (["--count-matches", "-q"], ["-q"]),
 ]
 
 

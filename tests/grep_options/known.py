@@ -92,9 +92,9 @@ def has_other_returns(case):
 
 def is_another_word(case):
     """ripgrep 13's -w takes a character that is no word in before and after a match, which differs for empty matches, for bytes that
-    aren't UTF-8 and with -o; and of -w and -x the last one counts."""
+    aren't UTF-8, with -o and in colours; and of -w and -x the last one counts."""
     return case.has("-w") and (
-        case.reads(BROKEN) or case.may_be_empty() or case.has("-o", "-x") or not case.pattern.begins_and_ends_words
+        case.reads(BROKEN) or case.may_be_empty() or case.has("-o", "-x", "-p") or not case.pattern.begins_and_ends_words
     )
 
 
@@ -110,12 +110,12 @@ def is_the_start_of_the_file(case):
 
 def misses_matches(case):
     """ripgrep 13 finds one match in `xab abx` of the patterns `\\Ba` and `x`, of which there are three."""
-    return case.has("-o") and case.pattern.text == "\\Ba" and len(case.asked().patterns) > 1
+    return case.has("-o", "--count-matches") and case.pattern.text == "\\Ba" and len(case.asked().patterns) > 1
 
 
 def counts_though_names_are_asked_for(case):
-    """Of -c and -l ripgrep takes -c."""
-    return case.has("-c") and case.has("-l")
+    """Of -c or --count-matches and -l ripgrep takes the first."""
+    return case.has("-c", "--count-matches") and case.has("-l")
 
 
 def has_other_context(case):
@@ -125,7 +125,7 @@ def has_other_context(case):
 
 def has_other_empty_matches(case):
     """ripgrep 13 finds no empty match at the end of a last line without a line feed. Options on lines show where they are, and how many."""
-    shows = case.has("--vimgrep", "--column") or case.has("-M1", "-M4", "--max-columns 12") and case.has("--color=always")
+    shows = case.has("--vimgrep", "--column", "--count-matches") or case.has("-M1", "-M4", "--max-columns 12") and case.has("--color=always", "-p")
     is_open = any(not it.endswith(b"\n") for it in case.data().values())
     return shows and case.may_be_empty() and is_open
 

@@ -44,7 +44,7 @@ OPTIONS = [
     same("-b", offsets=True),
     same("-H", names=True),
     Option(("-h",), {"names": False}, ("-I",)),
-    Option(("-c",), {"count": True}, ("-c", "--include-zero")),
+    Option(("-c",), {"count": True, "count_matches": False}, ("-c", "--include-zero")),
     same("-o", matches=True),
     same("-l", with_match=True, without=False),
     own("-L", without=True, with_match=False),
@@ -60,8 +60,8 @@ OPTIONS = [
     own("-C2", both=2),
     own("-1", both=1),
     own("--color=always", color=True),
-    own("--color=never", color=False),
-    own("--color", color=False),
+    own("--color=never", color=False, plain=True),
+    own("--color", color=False, plain=True),
     own("-s"),
     own("-r"),
     own("-R"),
@@ -95,6 +95,10 @@ LINE_OPTIONS = [
     Option(("--max-columns", "12"), {"most_bytes": 12}, ("-M12",)),
     same("-M0", most_bytes=None),
     same("--passthru", passthru=True),
+    Option(("--count-matches",), {"count_matches": True, "count": False}, ("--count-matches", "--include-zero")),
+    same("--heading", heading=True, no_heading=False),
+    same("--no-heading", heading=False, no_heading=True),
+    same("-p", pretty=True, numbers=True),
 ]
 COLOR = same("--color=always", color=True)
 CRLF = same("--crlf", crlf=True)

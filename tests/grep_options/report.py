@@ -1,6 +1,7 @@
 """What hirgrep prints, by its definition, once more in Python: lines, matches, selected lines, context, and bytes. tests/grep compares it
 with GNU grep, so that it may be believed where there is no GNU grep to ask: with --crlf."""
 
+import itertools
 import re
 from dataclasses import dataclass, replace
 
@@ -26,6 +27,7 @@ class Asked:
     without: bool = False
     with_match: bool = False
     count: bool = False
+    count_matches: bool = False
     matches: bool = False
     numbers: bool = False
     columns: bool = False
@@ -38,6 +40,10 @@ class Asked:
     passthru: bool = False
     most: int | None = None
     color: bool = False
+    plain: bool = False  # --color was given, and doesn't mark what is printed
+    heading: bool = False
+    no_heading: bool = False
+    pretty: bool = False
     zero_names: bool = False
     tab: bool = False
     trim: bool = False
@@ -262,21 +268,34 @@ def report_of_file(asked, regex, name, has_name, data, known):
         return b"", is_any, known
     if asked.without or asked.with_match:
         return (name_before(asked, name, b"\n") if is_any != asked.without else b""), is_any, known
-    if asked.count:
-        return name_field(asked, shown, b":") + b"%d\n" % sum(selected), is_any, known
+    if asked.count or asked.count_matches:
+        each = [1 if asked.count or asked.invert else len(spans_of(regex, it)) for it in lines]
+        return name_field(asked, shown, b":") + b"%d\n" % sum(itertools.compress(each, selected)), is_any, known
+    if asked.heading:
+        return under_heading(asked, shown, printed_lines(asked, regex, None, lines, selected, None)[0], known), is_any, known
     out, known = printed_lines(asked, regex, shown, lines, selected, known)
     return out, is_any, known
 
 
+def under_heading(asked, name, text, known):
+    """The text under the name of its file. An empty line separates it from what is printed of earlier files."""
+    if not text:
+        return b""
+    return (b"\n" if known else b"") + (b"" if name is None else name_before(asked, name, b"\n")) + text
+
+
 def report(asked, files):
     """Status and output for these files, by name."""
+    has_heading = (asked.heading or asked.pretty) and not (asked.no_heading or asked.each)
+    asked = replace(asked, color=asked.color or asked.pretty and not (asked.plain or asked.each), heading=has_heading)
     regex, known, out, status = regex_of(asked), None, b"", 1
     has_name = asked.each or len(files) > 1 if asked.names is None else asked.names
-    prints_all = asked.passthru and not (asked.quiet or asked.with_match or asked.count)
+    prints_all = asked.passthru and not (asked.quiet or asked.with_match or asked.count or asked.count_matches)
     if asked.most == 0 and not asked.without and not prints_all:
         return 1, b""
     for name, data in files.items():
         printed, is_any, known = report_of_file(asked, regex, name.encode(), has_name, data, known and "earlier")
+        known = "earlier" if asked.heading and printed else known
         out += printed
         status = 0 if is_any else status
         if asked.quiet and is_any:

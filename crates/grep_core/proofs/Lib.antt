@@ -5,6 +5,7 @@ mod CourseLemmas
 mod EdgeLemmas
 mod FallbackLemmas
 mod FeedLemmas
+mod HeadingLemmas
 mod HeldLemmas
 mod JoinLemmas
 mod JoinedLemmas

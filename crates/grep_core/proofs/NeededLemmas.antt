@@ -1,15 +1,15 @@
 -- A report asks for no more matches than are needed.
-use Rattle.std.proofs.Common.{◌≡◌, ℕ, Bool, true, false, ◌&&◌, List, [], ◌∷◌, ◌++◌, Option, Some, None, if◌then◌else◌, refl, sym, ap, ◌∙◌}
+use Rattle.std.proofs.Common.{◌≡◌, ℕ, ◌+◌, Bool, true, false, ◌&&◌, length, List, [], ◌∷◌, ◌++◌, Option, Some, None, if◌then◌else◌, refl, sym, ap, ◌∙◌}
 use Rattle.grep_core.specs.declared.separator_state.SeparatorState.{SeparatorState}
 use Rattle.grep_core.specs.declared.separator_state.SeparatorState.TheVariants.{LastPrinted}
 use Rattle.grep_core.specs.declared.role.Role.{Role}
 use Rattle.grep_core.specs.declared.role.Role.TheVariants.{Selected, Beside, Hidden}
 use Rattle.grep_core.specs.declared.output_options.Print.{Print}
-use Rattle.grep_core.specs.declared.output_options.Print.TheVariants.{Lines, Matches, Count, NameIfAny, NameIfNone, Nothing}
+use Rattle.grep_core.specs.declared.output_options.Print.TheVariants.{Lines, Matches, Count, CountMatches, NameIfAny, NameIfNone, Nothing}
 use Rattle.grep_core.specs.declared.output_options.OutputOptions.{OutputOptions}
 use Rattle.grep_core.specs.Lines.{TextLine, text_lines}
 use Rattle.grep_core.specs.Printing.{has_marks, printed_line, printed_matches, printed_with, shown_matches, shows_matches}
-use Rattle.grep_core.specs.Report.{LineMatcher, after_hidden, parting, print_lines, report, report_as, roles_of, selected}
+use Rattle.grep_core.specs.Report.{LineMatcher, after_hidden, count_line, count_matches, parting, print_lines, report, report_as, roles_of, selected}
 use Rattle.grep_core.specs.Reporting.{with_needed_spans, needs_of, needs_spans}
 
 print_alike : {X : Type 0} (w : OutputOptions) (one two : Role → X → List ℕ) → ((r : Role) (x : X) → one r x ≡ two r x) →
@@ -45,6 +45,15 @@ module _ (w : OutputOptions) (f : LineMatcher) (name : Option (List ℕ)) where
       printed_matches w name role line (f.spans line.content)
   same_matches needs role line = ap (printed_matches w name role line) (same_spans needs line)
 
+same_count : (w : OutputOptions) (f : LineMatcher) → needs_spans w ≡ true → (lines : List TextLine) (wanted : List Bool) →
+    count_matches (with_needed_spans w f) lines wanted ≡ count_matches f lines wanted
+same_count w f needs [] wanted = refl
+same_count w f needs (line ∷ lines) [] = refl
+same_count w f needs (line ∷ lines) (true ∷ wanted) =
+    ap (λ spans. length spans + count_matches (with_needed_spans w f) lines wanted) (same_spans w f None needs line)
+    ∙ ap (λ n. length (f.spans line.content) + n) (same_count w f needs lines wanted)
+same_count w f needs (line ∷ lines) (false ∷ wanted) = same_count w f needs lines wanted
+
 same_report : (p : Print) (w : OutputOptions) (f : LineMatcher) (name : List ℕ) (with_name : Bool) (known : SeparatorState) (lines : List
     TextLine) →
     w.print ≡ p →
@@ -62,6 +71,9 @@ same_report Matches w f name with_name known lines is =
     (same_matches w f (if with_name then Some name else None) (ap (λ p. needs_of p (shows_matches w)) is)) known
     (roles_of w (selected w f lines)) lines
 same_report Count w f name with_name known lines is = refl
+same_report CountMatches w f name with_name known lines is =
+    ap (count_line w (if with_name then Some name else None))
+    (same_count w f (ap (λ p. needs_of p (shows_matches w)) is) lines (selected w f lines))
 same_report NameIfAny w f name with_name known lines is = refl
 same_report NameIfNone w f name with_name known lines is = refl
 same_report Nothing w f name with_name known lines is = refl

@@ -8,16 +8,16 @@ use Rattle.grep_core.specs.declared.progress.Task.{Task}
 use Rattle.grep_core.specs.declared.context_printer.ContextPrinter.{ContextPrinter}
 use Rattle.grep_core.specs.declared.reporter.Reporter.{Reporter}
 use Rattle.grep_core.specs.declared.output_options.Print.{Print}
-use Rattle.grep_core.specs.declared.output_options.Print.TheVariants.{Lines, Matches, Count, NameIfAny, NameIfNone, Nothing}
+use Rattle.grep_core.specs.declared.output_options.Print.TheVariants.{Lines, Matches, Count, CountMatches, NameIfAny, NameIfNone, Nothing}
 use Rattle.grep_core.specs.declared.output_options.OutputOptions.{OutputOptions}
 use Rattle.grep_core.specs.Blocks.{reported_bytes, counts_lines}
 use Rattle.grep_core.specs.Candidates.{IsLineStart}
 use Rattle.grep_core.specs.ContextPrinting.{Item}
 use Rattle.grep_core.specs.Lines.{SplitLine, numbered, split_lines}
 use Rattle.grep_core.specs.Skipping.{AreWhole, MaySkip, SkipsTo, held_of}
-use Rattle.grep_core.specs.Report.{LineMatcher, after_hidden, is_wanted}
+use Rattle.grep_core.specs.Report.{LineMatcher, after_hidden, count_line, is_wanted}
 use Rattle.grep_core.specs.Selecting.{count_selected, limited}
-use Rattle.grep_core.specs.Reporting.{flags_after, left_of, prints_lines, reported_lines, reported_item}
+use Rattle.grep_core.specs.Reporting.{flags_after, left_of, matches_in, number_of, prints_lines, reported_lines, reported_item, shown}
 use Rattle.grep_core.proofs.BlockLemmas.{is_feed}
 use Rattle.grep_core.proofs.PassLemmas.{passed_over}
 
@@ -32,16 +32,27 @@ flags_same : (w : OutputOptions) (f : LineMatcher) (n i k j l : ℕ) (lines : Li
     flags_after w f n (numbered i k lines) ≡ flags_after w f n (numbered j l lines)
 flags_same w f n i k j l lines = ap (limited (left_of w.most n)) (wanted_same w f i k j l lines)
 
+matches_same : (f : LineMatcher) (i k j l : ℕ) (flags : List Bool) (lines : List SplitLine) →
+    matches_in flags (map (reported_item f) (numbered i k lines)) ≡ matches_in flags (map (reported_item f) (numbered j l lines))
+matches_same f i k j l [] lines = refl
+matches_same f i k j l (flag ∷ flags) [] = refl
+matches_same f i k j l (true ∷ flags) (line ∷ lines) =
+    ap (λ m. length (f.spans line) + m)
+    (matches_same f (i + 1) (k + length line.bytes + 1) (j + 1) (l + length line.bytes + 1) flags lines)
+matches_same f i k j l (false ∷ flags) (line ∷ lines) =
+    matches_same f (i + 1) (k + length line.bytes + 1) (j + 1) (l + length line.bytes + 1) flags lines
+
 unprinted : (print : Print) (w : OutputOptions) (name : List ℕ) (with_name : Bool) (c : ContextPrinter) (n : ℕ) (flags : List Bool)
     (items also : List Item) →
-    prints_lines print ≡ false → reported_lines print w name with_name c n flags items ≡
-    reported_lines print w name with_name c n flags also
-unprinted Lines w name with_name c n flags items also none = absurd (true≢false none)
-unprinted Matches w name with_name c n flags items also none = absurd (true≢false none)
-unprinted Count w name with_name c n flags items also none = refl
-unprinted NameIfAny w name with_name c n flags items also none = refl
-unprinted NameIfNone w name with_name c n flags items also none = refl
-unprinted Nothing w name with_name c n flags items also none = refl
+    prints_lines print ≡ false → matches_in flags items ≡ matches_in flags also →
+    reported_lines print w name with_name c n flags items ≡ reported_lines print w name with_name c n flags also
+unprinted Lines w name with_name c n flags items also none same = absurd (true≢false none)
+unprinted Matches w name with_name c n flags items also none same = absurd (true≢false none)
+unprinted Count w name with_name c n flags items also none same = refl
+unprinted CountMatches w name with_name c n flags items also none same = ap (λ m. count_line w (shown with_name name) (n + m)) same
+unprinted NameIfAny w name with_name c n flags items also none same = refl
+unprinted NameIfNone w name with_name c n flags items also none same = refl
+unprinted Nothing w name with_name c n flags items also none same = refl
 
 module _ (t : Task) (f : LineMatcher) (number place : ℕ) (c : Reporter) where
   abbrev at : ℕ → ℕ → Progress
@@ -50,12 +61,13 @@ module _ (t : Task) (f : LineMatcher) (number place : ℕ) (c : Reporter) where
   told_same : (i k j l : ℕ) (lines : List SplitLine) → prints_lines t.what.now.print ≡ false →
       reported_bytes t f (at i k) lines ≡ reported_bytes t f (at j l) lines
   told_same i k j l lines none =
-      ap (λ flags. reported_lines t.what.now.print t.what.now t.name.now t.with_name c.course c.count flags
+      ap (λ flags. reported_lines t.what.now.print t.what.now t.name.now t.with_name c.course (number_of t.what.now.print c) flags
       (map (reported_item f) (numbered i k lines)))
       (flags_same t.what.now f c.count i k j l lines)
-      ∙ unprinted t.what.now.print t.what.now t.name.now t.with_name c.course c.count
+      ∙ unprinted t.what.now.print t.what.now t.name.now t.with_name c.course (number_of t.what.now.print c)
       (flags_after t.what.now f c.count (numbered j l lines))
       (map (reported_item f) (numbered i k lines)) (map (reported_item f) (numbered j l lines)) none
+      (matches_same f i k j l (flags_after t.what.now f c.count (numbered j l lines)) lines)
 
   counted_same : (i k j l : ℕ) (lines : List SplitLine) → counts_lines t f (at i k) lines ≡ counts_lines t f (at j l) lines
   counted_same i k j l lines = ap (λ flags. c.count + count_selected flags) (flags_same t.what.now f c.count i k j l lines)

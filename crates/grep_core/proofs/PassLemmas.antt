@@ -13,7 +13,7 @@ use Rattle.grep_core.specs.declared.progress.Progress.{Progress}
 use Rattle.grep_core.specs.declared.progress.Task.{Task}
 use Rattle.grep_core.specs.declared.context_printer.ContextPrinter.{ContextPrinter}
 use Rattle.grep_core.specs.declared.output_options.Print.{Print}
-use Rattle.grep_core.specs.declared.output_options.Print.TheVariants.{Lines, Matches, Count, NameIfAny, NameIfNone, Nothing}
+use Rattle.grep_core.specs.declared.output_options.Print.TheVariants.{Lines, Matches, Count, CountMatches, NameIfAny, NameIfNone, Nothing}
 use Rattle.grep_core.specs.declared.output_options.OutputOptions.{OutputOptions}
 use Rattle.grep_core.specs.Blocks.{reported_bytes, counts_lines}
 use Rattle.grep_core.specs.Candidates.{IsLineStart}
@@ -22,7 +22,7 @@ use Rattle.grep_core.specs.Lines.{SplitLine, ended, numbered, split_lines}
 use Rattle.grep_core.specs.Skipping.{AreWhole, HasNoMatch, MaySkip, SkipsTo, held_of}
 use Rattle.grep_core.specs.Report.{LineMatcher, before_of, after_of, after_hidden, count_line, name_line}
 use Rattle.grep_core.specs.Selecting.{count_selected}
-use Rattle.grep_core.specs.Reporting.{shown, reported_item, prints_lines, reported_lines, may_select, flags_after}
+use Rattle.grep_core.specs.Reporting.{shown, matches_in, number_of, reported_item, prints_lines, reported_lines, may_select, flags_after}
 use Rattle.grep_core.proofs.BlockLemmas.{is_feed, turn, turn_counted}
 use Rattle.grep_core.proofs.JoinLemmas.{whole_start, whole_range}
 use Rattle.grep_core.proofs.RunLemmas.{one_lacks, others_lack}
@@ -48,6 +48,11 @@ none_of items = map (λ _. false) items
 none_counted : (items : List Item) (flags : List Bool) → count_selected (none_of items ++ flags) ≡ count_selected flags
 none_counted [] flags = refl
 none_counted (x ∷ xs) flags = none_counted xs flags
+
+none_matched : (items : List Item) (flags : List Bool) (more : List Item) →
+    matches_in (none_of items ++ flags) (items ++ more) ≡ matches_in flags more
+none_matched [] flags more = refl
+none_matched (x ∷ xs) flags more = none_matched xs flags more
 
 -- ---- what is reported of lines of which the first ones aren't selected
 module _ (w : OutputOptions) (name : List ℕ) (with_name : Bool) (c d : ContextPrinter) (n : ℕ) (front last items : List Item) (flags : List
@@ -79,6 +84,8 @@ module _ (w : OutputOptions) (name : List ℕ) (with_name : Bool) (c d : Context
   passed_as Lines many none same empty known = passed_lines (many refl) (none refl) same empty known
   passed_as Matches many none same empty known = passed_lines (many refl) (none refl) same empty known
   passed_as Count many none same empty known = ap (count_line w (shown with_name name)) fewer
+  passed_as CountMatches many none same empty known =
+      ap (λ m. count_line w (shown with_name name) (n + m)) (none_matched front (none_of last ++ flags) (last ++ items))
   passed_as NameIfAny many none same empty known = ap (λ k. if nat_lt 0 k then name_line w name else []) fewer
   passed_as NameIfNone many none same empty known = ap (λ k. if nat_lt 0 k then [] else name_line w name) fewer
   passed_as Nothing many none same empty known = refl
@@ -117,12 +124,12 @@ module _ (w : OutputOptions) (f : LineMatcher) (n : ℕ) (kept : w.invert ≡ fa
       ∙ ap₂ (λ i k. none_of (items (number + 1) (place + length line.bytes + 1) lines) ++ flags i k more)
       (more_first number (length lines)) (more_bytes place (length line.bytes) (all_bytes lines)))
 
-  module _ (name : List ℕ) (with_name : Bool) (c d : ContextPrinter) (front last more : List SplitLine) (number place next_number
+  module _ (name : List ℕ) (with_name : Bool) (c d : ContextPrinter) (m : ℕ) (front last more : List SplitLine) (number place next_number
       next_offset : ℕ)
       (lack : All (HasNoMatch f) front) (also : All (HasNoMatch f) last)
       (numbers : next_number ≡ number + length front) (places : next_offset ≡ place + all_bytes front) where
     abbrev reports : ContextPrinter → ℕ → ℕ → List SplitLine → List ℕ
-    reports e i k lines = reported_lines w.print w name with_name e n (flags i k lines) (items i k lines)
+    reports e i k lines = reported_lines w.print w name with_name e m (flags i k lines) (items i k lines)
 
     flags_two : flags number place (front ++ (last ++ more))
         ≡ none_of (items number place front) ++ flags next_number next_offset (last ++ more)
@@ -151,12 +158,12 @@ module _ (w : OutputOptions) (f : LineMatcher) (n : ℕ) (kept : w.invert ≡ fa
         ∙ sym (ap₂ (λ i k. items number place front ++ items i k (last ++ more)) numbers places) in
         let enough : prints_lines w.print ≡ true → before_of w.context ≤ length (items next_number next_offset last) =
         λ is. subst (λ m. before_of w.context ≤ m) (sym (as_many next_number next_offset last)) (many is) in
-        ap₂ (λ fs its. reported_lines w.print w name with_name c n fs its)
+        ap₂ (λ fs its. reported_lines w.print w name with_name c m fs its)
         (flags_two ∙ ap (λ fs. none_of (items number place front) ++ fs) now)
         (before ∙ ap (λ its. items number place front ++ its) ones)
-        ∙ passed_as w name with_name c d n (items number place front) (items next_number next_offset last) (items i k more) (flags i k more)
+        ∙ passed_as w name with_name c d m (items number place front) (items next_number next_offset last) (items i k more) (flags i k more)
         w.print enough none same empty known
-        ∙ sym (ap₂ (λ fs its. reported_lines w.print w name with_name d n fs its) now ones)
+        ∙ sym (ap₂ (λ fs its. reported_lines w.print w name with_name d m fs its) now ones)
 
 -- ---- haystacks of such lines
 module _ (text : List ℕ) (start : ℕ) (whole : AreWhole text) (starts : IsLineStart text start) where
@@ -220,7 +227,7 @@ passed_over t f p c number place held feeds start text part out may whole within
       lack = λ lack. last_lack text start whole starts f lack;
       printed = λ lack more. ap (λ l. out ++ l)
           (ap (λ lines. reported_bytes t f p lines) (both_more text start whole starts more)
-          ∙ run_told w f p.telling.count may.kept t.name.now t.with_name p.telling.course c front last (split_lines more)
+          ∙ run_told w f p.telling.count may.kept t.name.now t.with_name p.telling.course c (number_of w.print p.telling) front last (split_lines more)
           p.number p.place number place (front_lack text start whole starts f lack) (last_lack text start whole starts f lack)
           as_many_lines as_far (held_lines w held (length last) held_is many) may.none_owed same empty known_so
           ∙ sym (ap (λ lines. reported_bytes t f
@@ -229,7 +236,7 @@ passed_over t f p c number place held feeds start text part out may whole within
       counted = λ lack more.
           ap (λ lines. counts_lines t f (record p { number = number; place = place; telling = record (p.telling) { course = c } }) lines)
           (last_more text start whole starts more)
-          ∙ run_counted w f p.telling.count may.kept t.name.now t.with_name p.telling.course c front last (split_lines more)
+          ∙ run_counted w f p.telling.count may.kept t.name.now t.with_name p.telling.course c (number_of w.print p.telling) front last (split_lines more)
           p.number p.place number place (front_lack text start whole starts f lack) (last_lack text start whole starts f lack)
           as_many_lines as_far
           ∙ sym (ap (λ lines. counts_lines t f p lines) (both_more text start whole starts more));

@@ -1,21 +1,22 @@
 -- What is still to be reported of lines goes on by one line.
 use Rattle.std.proofs.Common.{◌≡◌, Result, Ok, Err, OnOk, ◌⊎◌, inl, inr, IsTrue, nat_eq, take, ◌≤◌, ◌<◌, ℕ, zero, suc, ◌+◌, ◌-◌, Bool, true}
-use Rattle.std.proofs.Common.{false, not, ◌&&◌, nat_lt, List, [], ◌∷◌, ◌++◌, map, Option, Some, None, if◌then◌else◌, refl, sym, ap, ap₂}
+use Rattle.std.proofs.Common.{false, not, ◌&&◌, nat_lt, length, List, [], ◌∷◌, ◌++◌, map, Option, Some, None, if◌then◌else◌, refl, sym, ap, ap₂}
 use Rattle.std.proofs.Common.{◌∙◌, arith, lt-ltb}
 use Rattle.grep_core.specs.declared.context_printer.ContextPrinter.{ContextPrinter}
 use Rattle.grep_core.specs.declared.separator_state.SeparatorState.{SeparatorState}
 use Rattle.grep_core.specs.declared.separator_state.SeparatorState.TheVariants.{LastPrinted}
+use Rattle.grep_core.specs.declared.reporter.Reporter.{Reporter}
 use Rattle.grep_core.specs.declared.role.Role.{Role}
 use Rattle.grep_core.specs.declared.role.Role.TheVariants.{Selected, Beside, Hidden}
 use Rattle.grep_core.specs.declared.output_options.Print.{Print}
-use Rattle.grep_core.specs.declared.output_options.Print.TheVariants.{Lines, Matches, Count, NameIfAny, NameIfNone, Nothing}
+use Rattle.grep_core.specs.declared.output_options.Print.TheVariants.{Lines, Matches, Count, CountMatches, NameIfAny, NameIfNone, Nothing}
 use Rattle.grep_core.specs.declared.output_options.OutputOptions.{OutputOptions}
 use Rattle.grep_core.specs.ContextPrinting.{Item, item, still, print_as, print_item, waiting_item}
 use Rattle.grep_core.specs.Lines.{TextLine}
 use Rattle.grep_core.specs.Report.{LineMatcher, before_of, after_of, first_of, roles_of, parting, after_hidden, print_lines, count_line, name_line}
-use Rattle.grep_core.specs.Report.{report_as, selected, is_wanted}
+use Rattle.grep_core.specs.Report.{count_matches, report_as, selected, is_wanted}
 use Rattle.grep_core.specs.Selecting.{limited, count_selected, any, roles, roles_from}
-use Rattle.grep_core.specs.Reporting.{shown, reported_item, prints_lines, reported_lines, left_of, may_select, flags_after}
+use Rattle.grep_core.specs.Reporting.{added, added_matches, counts_matches, matches_in, number_of, shown, reported_item, prints_lines, reported_lines, left_of, may_select, flags_after}
 
 print_map : {X Y : Type 0} (w : OutputOptions) (print : Role → Y → List ℕ) (g : X → Y) (b : SeparatorState) (rs : List Role) (xs : List X) →
     print_lines w print b rs (map g xs) ≡ print_lines w (λ r x. print r (g x)) b rs xs
@@ -53,6 +54,19 @@ starts_lines p w f name known c fresh is lines =
     (flags_none w f lines)
     ∙ ap (λ q. print_lines w (λ role line. print_as q w name role (reported_item f line)) known (roles_of w (selected w f lines)) lines) is
 
+matches_mapped : (f : LineMatcher) (lines : List TextLine) (flags : List Bool) →
+    matches_in flags (map (reported_item f) lines) ≡ count_matches f lines flags
+matches_mapped f [] [] = refl
+matches_mapped f [] (flag ∷ flags) = refl
+matches_mapped f (line ∷ lines) [] = refl
+matches_mapped f (line ∷ lines) (true ∷ flags) = ap (λ n. length (f.spans line.content) + n) (matches_mapped f lines flags)
+matches_mapped f (line ∷ lines) (false ∷ flags) = matches_mapped f lines flags
+
+-- nothing is counted yet
+pub none_yet : (b : Bool) → ◌≡◌ {A = ℕ} (if b then 0 else 0) 0
+none_yet true = refl
+none_yet false = refl
+
 pub starts_told : (p : Print) (w : OutputOptions) (f : LineMatcher) (name : List ℕ) (with_name : Bool) (known : SeparatorState) (c :
     ContextPrinter) →
     Starts w (shown with_name name) known c → w.print ≡ p → (lines : List TextLine) →
@@ -63,6 +77,10 @@ starts_told Matches w f name with_name known c fresh is lines = starts_lines Mat
 starts_told Count w f name with_name known c fresh is lines =
     ap (count_line w (shown with_name name)) (none_before (count_selected (flags_after w f 0 lines))
     ∙ ap count_selected (flags_none w f lines))
+starts_told CountMatches w f name with_name known c fresh is lines =
+    ap (count_line w (shown with_name name)) (none_before (matches_in (flags_after w f 0 lines) (map (reported_item f) lines))
+    ∙ ap (λ flags. matches_in flags (map (reported_item f) lines)) (flags_none w f lines)
+    ∙ matches_mapped f lines (selected w f lines))
 starts_told NameIfAny w f name with_name known c fresh is lines =
     ap (λ n. if nat_lt 0 n then name_line w name else []) (none_before (count_selected (flags_after w f 0 lines))
     ∙ ap count_selected (flags_none w f lines))
@@ -121,20 +139,20 @@ flags_step w f n m sel has line lines is seen more =
     ∙ ap (λ t. t ∷ limited (left_of w.most (n + (if t then 1 else 0))) (map (is_wanted w f) lines)) same
     ∙ ap (λ k. sel ∷ limited (left_of w.most k) (map (is_wanted w f) lines)) (sym more)
 
-pub line_told : (p : Print) (w : OutputOptions) (f : LineMatcher) (name : List ℕ) (with_name : Bool) (c after : ContextPrinter) (n m : ℕ)
+pub line_told : (p : Print) (w : OutputOptions) (f : LineMatcher) (name : List ℕ) (with_name : Bool) (c after : ContextPrinter) (n m k l : ℕ)
     (sel has : Bool)
     (line : TextLine)
     (found : List (ℕ × ℕ)) (out new : List ℕ) (lines : List TextLine) → sel ≡ selects w n has → has ≡ f.has_match line.content →
     found ≡ f.spans line.content →
     m ≡ n + (if sel then 1 else 0) →
     ((flags : List Bool) (items : List Item) →
-    out ++ reported_lines p w name with_name c n (sel ∷ flags) (item line found ∷ items) ≡
-    new ++ reported_lines p w name with_name after m flags items)
+    out ++ reported_lines p w name with_name c k (sel ∷ flags) (item line found ∷ items) ≡
+    new ++ reported_lines p w name with_name after l flags items)
     →
-    out ++ reported_lines p w name with_name c n (flags_after w f n (line ∷ lines)) (map (reported_item f) (line ∷ lines))
-    ≡ new ++ reported_lines p w name with_name after m (flags_after w f m lines) (map (reported_item f) lines)
-line_told p w f name with_name c after n m sel has line found out new lines is seen spans more goes_on =
-    ap₂ (λ flags fs. out ++ reported_lines p w name with_name c n flags (item line fs ∷ map (reported_item f) lines))
+    out ++ reported_lines p w name with_name c k (flags_after w f n (line ∷ lines)) (map (reported_item f) (line ∷ lines))
+    ≡ new ++ reported_lines p w name with_name after l (flags_after w f m lines) (map (reported_item f) lines)
+line_told p w f name with_name c after n m k l sel has line found out new lines is seen spans more goes_on =
+    ap₂ (λ flags fs. out ++ reported_lines p w name with_name c k flags (item line fs ∷ map (reported_item f) lines))
     (flags_step w f n m sel has line lines is seen more) (sym spans)
     ∙ goes_on (flags_after w f m lines) (map (reported_item f) lines)
 
@@ -152,16 +170,38 @@ line_counted w f n m sel has line lines is seen more =
     ∙ one_counted sel n (flags_after w f m lines)
     ∙ ap (λ flags. n + count_selected flags) (sym (flags_step w f n m sel has line lines is seen more))
 
+one_matched : (sel : Bool) (n : ℕ) (flags : List Bool) (it : Item) (items : List Item) →
+    (n + (if sel then length it.found else 0)) + matches_in flags items ≡ n + matches_in (sel ∷ flags) (it ∷ items)
+one_matched true n flags it items =
+    let e : (n + length it.found) + matches_in flags items ≡ n + (length it.found + matches_in flags items) = omega arith in e
+one_matched false n flags it items = let e : (n + 0) + matches_in flags items ≡ n + matches_in flags items = omega arith in e
+
+-- The counts after a line: what it adds to the number of matches is added to the number that is counted.
+pub number_told : (p : Print) (t u : Reporter) (sel : Bool) (k n : ℕ) → k ≡ n → u.count ≡ t.count + (if sel then 1 else 0) →
+    u.matches ≡ t.matches + added_matches p sel k → number_of p u ≡ number_of p t + added p sel n
+number_told p t u sel k n same counted matched =
+    by (counts_matches p) sel (matched ∙ ap (λ m. t.matches + added_matches p sel m) same) counted
+  where
+    by : (b s : Bool) → u.matches ≡ t.matches + (if b && s then n else 0) → u.count ≡ t.count + (if s then 1 else 0) →
+        (if b then u.matches else u.count) ≡ (if b then t.matches else t.count) + (if s then (if b then n else 1) else 0)
+    by true true matches counts = matches
+    by true false matches counts = matches
+    by false true matches counts = counts
+    by false false matches counts = counts
+
 -- what is reported besides lines and matches
 pub besides_told : (p : Print) (w : OutputOptions) (name : List ℕ) (with_name : Bool) (c : ContextPrinter) (n m : ℕ) (sel : Bool) (out :
     List ℕ)
     (flags : List Bool) (it : Item)
-    (items : List Item) → prints_lines p ≡ false → m ≡ n + (if sel then 1 else 0) →
+    (items : List Item) → prints_lines p ≡ false → m ≡ n + added p sel (length it.found) →
     out ++ reported_lines p w name with_name c n (sel ∷ flags) (it ∷ items) ≡ out ++ reported_lines p w name with_name c m flags items
 besides_told Lines w name with_name c n m sel out flags it items other more = absurd (grind (arith, other))
 besides_told Matches w name with_name c n m sel out flags it items other more = absurd (grind (arith, other))
 besides_told Count w name with_name c n m sel out flags it items other more =
     ap (λ k. out ++ count_line w (shown with_name name) k) (sym (ap (λ k. k + count_selected flags) more ∙ one_counted sel n flags))
+besides_told CountMatches w name with_name c n m sel out flags it items other more =
+    ap (λ k. out ++ count_line w (shown with_name name) k)
+    (sym (ap (λ k. k + matches_in flags items) more ∙ one_matched sel n flags it items))
 besides_told NameIfAny w name with_name c n m sel out flags it items other more =
     ap (λ k. out ++ (if nat_lt 0 k then name_line w name else [])) (sym (ap (λ k. k + count_selected flags) more ∙ one_counted sel n flags))
 besides_told NameIfNone w name with_name c n m sel out flags it items other more =
@@ -177,6 +217,15 @@ spent_flags (Some m) n spent xs = ap (λ k. limited (Some k) xs)
 none_counted : (xs : List Bool) → count_selected (map (λ _. false) xs) ≡ 0
 none_counted [] = refl
 none_counted (x ∷ xs) = none_counted xs
+
+none_matched : (xs : List Bool) (items : List Item) → matches_in (map (λ _. false) xs) items ≡ 0
+none_matched [] items = refl
+none_matched (x ∷ xs) [] = refl
+none_matched (x ∷ xs) (it ∷ items) = none_matched xs items
+
+no_items : (flags : List Bool) → matches_in flags [] ≡ 0
+no_items [] = refl
+no_items (flag ∷ flags) = refl
 
 any_taken : (n : ℕ) (flags : List Bool) → any flags ≡ false → any (take n flags) ≡ false
 any_taken zero flags e = refl
@@ -231,15 +280,26 @@ module _ (w : OutputOptions) (f : LineMatcher) (name : List ℕ) (with_name : Bo
       ∙ still_none w (shown with_name name) c left (map (is_wanted w f) lines) (map (reported_item f) lines)
       ∙ sym (ap (λ flags. still w (shown with_name name) c flags []) (none []) ∙ still_none w (shown with_name name) c left [] [])
 
-  pub over_told : (p : Print) → (prints_lines p ≡ true → c.left ≡ 0) → (lines : List TextLine) →
-      reported_lines p w name with_name c n (flags_after w f n lines) (map (reported_item f) lines)
-      ≡ reported_lines p w name with_name c n (flags_after w f n []) []
-  over_told Lines left lines = over_lines (left refl) lines
-  over_told Matches left lines = over_lines (left refl) lines
-  over_told Count left lines = ap (count_line w (shown with_name name)) (over_counted lines)
-  over_told NameIfAny left lines = ap (λ k. if nat_lt 0 k then name_line w name else []) (over_counted lines)
-  over_told NameIfNone left lines = ap (λ k. if nat_lt 0 k then [] else name_line w name) (over_counted lines)
-  over_told Nothing left lines = refl
+  over_number : (k : ℕ) (lines : List TextLine) → k + count_selected (flags_after w f n lines) ≡ k + count_selected (flags_after w f n [])
+  over_number k lines = ap (λ m. k + m) (none_more lines ∙ sym (none_more []))
+
+  over_matches : (lines : List TextLine) →
+      matches_in (flags_after w f n lines) (map (reported_item f) lines) ≡ matches_in (flags_after w f n []) []
+  over_matches lines =
+      ap (λ flags. matches_in flags (map (reported_item f) lines)) (none lines)
+      ∙ none_matched (map (is_wanted w f) lines) (map (reported_item f) lines)
+      ∙ sym (no_items (flags_after w f n []))
+
+  pub over_told : (k : ℕ) (p : Print) → (prints_lines p ≡ true → c.left ≡ 0) → (lines : List TextLine) →
+      reported_lines p w name with_name c k (flags_after w f n lines) (map (reported_item f) lines)
+      ≡ reported_lines p w name with_name c k (flags_after w f n []) []
+  over_told k Lines left lines = over_lines (left refl) lines
+  over_told k Matches left lines = over_lines (left refl) lines
+  over_told k Count left lines = ap (count_line w (shown with_name name)) (over_number k lines)
+  over_told k CountMatches left lines = ap (λ m. count_line w (shown with_name name) (k + m)) (over_matches lines)
+  over_told k NameIfAny left lines = ap (λ m. if nat_lt 0 m then name_line w name else []) (over_number k lines)
+  over_told k NameIfNone left lines = ap (λ m. if nat_lt 0 m then [] else name_line w name) (over_number k lines)
+  over_told k Nothing left lines = refl
 
 -- it asks for no more than whether a line is selected
 abbrev pub IsOfNames : Print → Type 0
@@ -255,8 +315,9 @@ pub all_counted : (w : OutputOptions) (f : LineMatcher) (n : ℕ) → n + count_
 all_counted w f n = ap (λ k. n + k) (none_limited (left_of w.most n)) ∙ (let e : n + 0 ≡ n = omega arith in e)
 
 -- a count and names are no lines
-pub not_lines : (p : Print) (n : ℕ) → p ≡ Count → prints_lines p ≡ true → n ≡ 0
-not_lines p n e l = let f : false ≡ true = sym (ap prints_lines e) ∙ l in absurd (grind (arith, f))
+pub not_lines : (p : Print) (n : ℕ) → (p ≡ Count) ⊎ (p ≡ CountMatches) → prints_lines p ≡ true → n ≡ 0
+not_lines p n (inl e) l = let f : false ≡ true = sym (ap prints_lines e) ∙ l in absurd (grind (arith, f))
+not_lines p n (inr e) l = let f : false ≡ true = sym (ap prints_lines e) ∙ l in absurd (grind (arith, f))
 
 pub names_not_lines : (p : Print) (n : ℕ) → IsOfNames p → prints_lines p ≡ true → n ≡ 0
 names_not_lines p n (inl e) l = let f : false ≡ true = sym (ap prints_lines e) ∙ l in absurd (grind (arith, f))
@@ -279,6 +340,7 @@ as_still : (p : Print) (w : OutputOptions) (name : List ℕ) (with_name : Bool) 
 as_still Lines w name with_name c n flags items is = refl
 as_still Matches w name with_name c n flags items is = refl
 as_still Count w name with_name c n flags items is = absurd (grind (arith, is))
+as_still CountMatches w name with_name c n flags items is = absurd (grind (arith, is))
 as_still NameIfAny w name with_name c n flags items is = absurd (grind (arith, is))
 as_still NameIfNone w name with_name c n flags items is = absurd (grind (arith, is))
 as_still Nothing w name with_name c n flags items is = absurd (grind (arith, is))
@@ -289,7 +351,7 @@ pub lines_told : {E : Type 0} (r : Result (Unit {0}) E) (p : Print) (w : OutputO
     OnOk r ((flags : List Bool) (items : List Item) → out ++ still w name c (sel ∷ flags) (it ∷ items) ≡ new
     ++ still w name after flags items) →
     OnOk r ((text : List ℕ) (with_name : Bool) (n m : ℕ) (flags : List Bool) (items : List Item) → shown with_name text ≡ name →
-    m ≡ n + (if sel then 1 else 0) →
+    m ≡ n + added p sel (length it.found) →
     out ++ reported_lines p w text with_name c n (sel ∷ flags) (it ∷ items) ≡ new ++ reported_lines p w text with_name after m flags items)
 lines_told (Err e) p w c after sel it out new name is goes_on = tt
 lines_told (Ok u) p w c after sel it out new name is goes_on = λ text with_name n m flags items named more.

@@ -6,6 +6,7 @@ pub mod Patterns
 pub mod Searchers
 pub mod ContextPrinting
 pub mod Reporting
+pub mod Headings
 pub mod Blocks
 pub mod Skipping
 pub mod Fallbacks

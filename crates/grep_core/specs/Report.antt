@@ -1,7 +1,7 @@
 -- What is printed for an input, for any choice of wanted lines and any spans as the matches of a line.
-use Rattle.std.specs.Prelude.{ℕ, Bool, not, nat_lt, List, [], ◌∷◌, ◌++◌, map, decimal, codes, Option, Some, None, is_some, if◌then◌else◌}
+use Rattle.std.specs.Prelude.{ℕ, ◌+◌, Bool, true, false, not, nat_lt, length, List, [], ◌∷◌, ◌++◌, map, decimal, codes, Option, Some, None, is_some, if◌then◌else◌}
 use Rattle.grep_core.specs.declared.output_options.Context.{Context}
-use Rattle.grep_core.specs.declared.output_options.Print.TheVariants.{Lines, Matches, Count, NameIfAny, NameIfNone, Nothing}
+use Rattle.grep_core.specs.declared.output_options.Print.TheVariants.{Lines, Matches, Count, CountMatches, NameIfAny, NameIfNone, Nothing}
 use Rattle.grep_core.specs.declared.output_options.Print.{Print}
 use Rattle.grep_core.specs.declared.separator_state.SeparatorState.{SeparatorState}
 use Rattle.grep_core.specs.declared.separator_state.SeparatorState.TheVariants.{NonePrinted, LastPrinted, EarlierPrinted}
@@ -65,6 +65,13 @@ abbrev pub count_line : OutputOptions → Option (List ℕ) → ℕ → List ℕ
 count_line w None n = decimal n ++ 10 ∷ []
 count_line w (Some name) n = name_field w Selected (Some name) ++ (decimal n ++ 10 ∷ [])
 
+-- How many matches the selected lines have.
+abbrev pub count_matches : LineMatcher → List TextLine → List Bool → ℕ
+count_matches f [] wanted = 0
+count_matches f (line ∷ lines) [] = 0
+count_matches f (line ∷ lines) (true ∷ wanted) = length (f.spans line.content) + count_matches f lines wanted
+count_matches f (line ∷ lines) (false ∷ wanted) = count_matches f lines wanted
+
 abbrev pub name_line : OutputOptions → List ℕ → List ℕ
 name_line w name = name_before w name (10 ∷ [])
 
@@ -78,6 +85,8 @@ report_as Matches w f name with_name known lines wanted =
     print_lines w (λ role line. printed_matches w (if with_name then Some name else None) role line (f.spans line.content)) known
     (roles_of w wanted) lines
 report_as Count w f name with_name known lines wanted = count_line w (if with_name then Some name else None) (count_selected wanted)
+report_as CountMatches w f name with_name known lines wanted =
+    count_line w (if with_name then Some name else None) (count_matches f lines wanted)
 report_as NameIfAny w f name with_name known lines wanted = if nat_lt 0 (count_selected wanted) then name_line w name else []
 report_as NameIfNone w f name with_name known lines wanted = if nat_lt 0 (count_selected wanted) then [] else name_line w name
 report_as Nothing w f name with_name known lines wanted = []
@@ -94,6 +103,7 @@ abbrev pub counted_as : Print → ℕ → ℕ
 counted_as Lines n = n
 counted_as Matches n = n
 counted_as Count n = n
+counted_as CountMatches n = n
 counted_as NameIfAny n = if nat_lt 0 n then 1 else 0
 counted_as NameIfNone n = if nat_lt 0 n then 1 else 0
 counted_as Nothing n = if nat_lt 0 n then 1 else 0

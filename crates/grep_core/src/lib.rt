@@ -18,6 +18,7 @@ mod fallback;
 mod fault;
 mod feeds;
 mod finder;
+mod heading;
 mod items;
 mod joining;
 pub mod laws;
@@ -45,6 +46,7 @@ mod slow_search;
 
 pub use fault::Fault;
 pub use finder::Finder;
+pub use heading::{Headed, report_headed};
 pub use line::Line;
 pub use line_patterns::LinePatterns;
 pub use looking::needs_spans;

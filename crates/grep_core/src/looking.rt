@@ -27,8 +27,9 @@ pub fn needs_spans(what: &OutputOptions) -> bool
 {
     match what.print {
         Print::Lines => shows_matches(what),
-        Print::Matches => true,
-        Print::Count | Print::NameIfAny | Print::NameIfNone | Print::Nothing => false,
+        Print::Matches | Print::CountMatches => true,
+        Print::Count => false,
+        Print::NameIfAny | Print::NameIfNone | Print::Nothing => false,
     }
 }
 

@@ -18,6 +18,8 @@ pub enum Print {
     Matches,
     /// How many lines are selected.
     Count,
+    /// How many matches the selected lines have.
+    CountMatches,
     /// The name of the input, if a line is selected.
     NameIfAny,
     /// The name of the input, if no line is selected.

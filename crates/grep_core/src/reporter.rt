@@ -1,12 +1,12 @@
 //! The output for an input, line by line.
 ghost use Rattle.std.specs.Prelude.{◌≡◌, ◌++◌, ◌∷◌, [], ℕ, ◌+◌, Bool, List, Option, OnOk, IfOk, IsTrue, decimal, map, nat_lt, not, ◌&&◌};
-ghost use Rattle.std.specs.Prelude.{option_map, if◌then◌else◌};
+ghost use Rattle.std.specs.Prelude.{length, option_map, if◌then◌else◌};
 ghost use Rattle.grep_core.specs.ContextPrinting.{Item, Waits, item};
 ghost use Rattle.grep_core.specs.Lines.{TextLine};
 ghost use Rattle.grep_core.specs.Printing.{span_pair, text_line};
 ghost use Rattle.grep_core.specs.Report.{LineMatcher, first_of, report_as, selected, count_line, name_line, counted_as};
 ghost use Rattle.grep_core.specs.Selecting.{count_selected};
-ghost use Rattle.grep_core.specs.Reporting.{shown, prints_lines, reported_lines, may_select, still_reported, count_in_all};
+ghost use Rattle.grep_core.specs.Reporting.{shown, added, added_matches, counts_matches, prints_lines, reported_lines, may_select, still_reported, count_in_all};
 ghost use Rattle.grep_core.specs.declared.output_options.OutputOptions.{OutputOptions as TheOutputOptions};
 
 use crate::context_printer::{ContextPrinter, next_line, see_end};
@@ -14,6 +14,7 @@ use crate::fault::Fault;
 use crate::line::Line;
 use crate::output_options::{OutputOptions, Print};
 use crate::printing::{push_marked, push_name_field};
+use crate::progress::sum;
 use crate::role::Role;
 use crate::separator_state::SeparatorState;
 use search_types::Span;
@@ -25,6 +26,8 @@ pub(crate) struct Reporter {
     pub course: ContextPrinter,
     /// How many of them are selected.
     pub count: u64,
+    /// How many matches the selected ones have, if that is printed.
+    pub matches: u64,
 }
 
 /// The name that is printed before lines, if any.
@@ -40,7 +43,8 @@ pub(crate) fn prints_lines(print: Print) -> bool
 {
     match print {
         Print::Lines | Print::Matches => true,
-        Print::Count | Print::NameIfAny | Print::NameIfNone | Print::Nothing => false,
+        Print::Count | Print::CountMatches => false,
+        Print::NameIfAny | Print::NameIfNone | Print::Nothing => false,
     }
 }
 
@@ -81,7 +85,7 @@ fn report_by_flags(
 ) -> Result<(), Fault>
     requires { Waits what.now course.old }
     ensures goes_on { OnOk result ((text : List ℕ) (with_name : Bool) (n m : ℕ) (flags : List Bool) (items : List Item) →
-        shown with_name text ≡ option_map (λ n. n.now) name.entry → m ≡ n + (if is_selected then 1 else 0) →
+        shown with_name text ≡ option_map (λ n. n.now) name.entry → m ≡ n + added what.now.print is_selected (length (map span_pair found.now)) →
         out.old.items ++ reported_lines what.now.print what.now text with_name course.old n (is_selected ∷ flags)
         (item (text_line line.entry) (map span_pair found.now) ∷ items)
         ≡ out.new.items ++ reported_lines what.now.print what.now text with_name course.new m flags items) }
@@ -106,6 +110,27 @@ fn count_more(count: u64, is_selected: bool) -> Result<u64, Fault>
     }
 }
 
+/// Whether matches are counted, and not lines.
+fn counts_matches(print: Print) -> bool
+    ensures { result ≡ counts_matches print }
+{
+    match print {
+        Print::CountMatches => true,
+        Print::Lines | Print::Matches | Print::Count => false,
+        Print::NameIfAny | Print::NameIfNone | Print::Nothing => false,
+    }
+}
+
+/// Adds the matches of a line to their number if the line is selected and the number is printed.
+fn more_matches(print: Print, matches: u64, is_selected: bool, found: usize) -> Result<u64, Fault>
+    ensures { IfOk result (λ n. n ≡ matches + added_matches print is_selected found) }
+{
+    if counts_matches(print) && is_selected {
+        return sum(matches, found as u64);
+    }
+    Ok(matches)
+}
+
 impl Reporter {
     /// The state before the first line, where `known` describes the lines of earlier inputs, and so many lines are printed as context
     /// before the first selected one.
@@ -119,6 +144,7 @@ impl Reporter {
         Reporter {
             course: ContextPrinter::new(alloc, first, known),
             count: 0,
+            matches: 0,
         }
     }
 }
@@ -156,6 +182,7 @@ pub(crate) fn report_line(
         found,
     )?;
     telling.count = count_more(telling.count, is_selected)?;
+    telling.matches = more_matches(what.print, telling.matches, is_selected, found.len())?;
     Ok(())
 }
 
@@ -169,7 +196,7 @@ fn push_number(alloc: Global, out: &mut Vec<u8>, number: u64) -> Result<(), Allo
     Ok(())
 }
 
-/// Appends the count of selected lines as a line, after the name if there is one.
+/// Appends a count as a line, after the name if there is one.
 fn push_count(
     alloc: Global,
     out: &mut Vec<u8>,
@@ -187,7 +214,11 @@ fn push_count(
 }
 
 /// Appends the name of an input as a line.
-fn push_name(out: &mut Vec<u8>, what: &OutputOptions<'_>, name: &[u8]) -> Result<(), AllocError>
+pub(crate) fn push_name(
+    out: &mut Vec<u8>,
+    what: &OutputOptions<'_>,
+    name: &[u8],
+) -> Result<(), AllocError>
     ensures { OnOk result (out.new.items ≡ out.old.items ++ name_line what.now name.now) }
 {
     push_marked(out, what.color, b"35", name)?;
@@ -214,6 +245,13 @@ pub(crate) fn report_end(
             Ok(())
         }
         Print::Count => push_count(alloc, out, what, shown(name, with_name), telling.count),
+        Print::CountMatches => push_count(
+            alloc,
+            out,
+            what,
+            shown(name, with_name),
+            telling.matches,
+        ),
         Print::NameIfAny if telling.count > 0 => push_name(out, what, name),
         Print::NameIfNone if telling.count == 0 => push_name(out, what, name),
         _ => Ok(()),
@@ -231,7 +269,7 @@ pub(crate) fn counted_as(print: Print, count: u64) -> u64
     ensures { result ≡ counted_as print count }
 {
     match print {
-        Print::Lines | Print::Matches | Print::Count => count,
+        Print::Lines | Print::Matches | Print::Count | Print::CountMatches => count,
         Print::NameIfAny | Print::NameIfNone | Print::Nothing => one_of(count),
     }
 }
@@ -247,7 +285,7 @@ pub(crate) fn is_over(what: &OutputOptions<'_>, telling: &Reporter) -> bool
     let is_spent = !may_select(what, telling.count);
     match what.print {
         Print::Lines | Print::Matches => is_spent && telling.course.left == 0,
-        Print::Count => is_spent,
+        Print::Count | Print::CountMatches => is_spent,
         Print::NameIfAny | Print::NameIfNone | Print::Nothing => is_spent || telling.count > 0,
     }
 }

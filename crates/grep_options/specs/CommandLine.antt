@@ -127,15 +127,22 @@ selecting_options =
 abbrev pub quiet_option : OptionRow
 quiet_option = record (flag (codes "quiet") (codes "q")) { aliases = codes "silent" ∷ [] }
 
+-- Of these two the later one takes effect.
+abbrev pub count_options : List OptionRow
+count_options =
+    flag_over (codes "count") (codes "c") (codes "count-matches")
+    ∷ flag_over (codes "count-matches") [] (codes "count")
+    ∷ []
+
 abbrev pub printing_options : List OptionRow
 printing_options =
-    flag (codes "count") (codes "c")
-    ∷ flag (codes "only-matching") (codes "o")
+    count_options
+    ++ (flag (codes "only-matching") (codes "o")
     ∷ flag (codes "no-messages") (codes "s")
     ∷ flag (codes "line-number") (codes "n")
     ∷ flag (codes "byte-offset") (codes "b")
     ∷ quiet_option
-    ∷ []
+    ∷ [])
 
 abbrev pub directories_option : OptionRow
 directories_option =
@@ -214,6 +221,14 @@ line_options =
     ∷ passthru_option
     ∷ []
 
+-- Names above lines. Of the first two the later one takes effect.
+abbrev pub heading_options : List OptionRow
+heading_options =
+    flag_over (codes "heading") [] (codes "no-heading")
+    ∷ flag_over (codes "no-heading") [] (codes "heading")
+    ∷ flag (codes "pretty") (codes "p")
+    ∷ []
+
 -- the format of what is printed
 abbrev pub format_options : List OptionRow
 format_options =
@@ -221,7 +236,7 @@ format_options =
     ∷ flag (codes "initial-tab") (codes "T")
     ∷ given_separator
     ∷ no_separator
-    ∷ line_options
+    ∷ (line_options ++ heading_options)
 
 -- Which files with zero bytes are text. Of these three the last one takes effect. The last of them has no long name.
 abbrev pub text_option : OptionRow

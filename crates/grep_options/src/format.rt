@@ -1,7 +1,7 @@
 //! Options on the format of what is printed.
 ghost use Rattle.std.specs.Prelude.{◌≡◌, ◌∷◌, [], OnOk, codes};
 ghost use Rattle.clap.specs.declared.builder.action.ArgAction.TheVariants.{Set};
-ghost use Rattle.grep_options.specs.CommandLine.{AddsOptions, format_options, given_separator, line_options, no_separator, option, passthru_option};
+ghost use Rattle.grep_options.specs.CommandLine.{AddsOptions, format_options, given_separator, heading_options, line_options, no_separator, option, passthru_option};
 
 use crate::options::{option, push, push_flag, push_long, push_number, push_over};
 use clap::{Arg, ArgAction};
@@ -55,6 +55,21 @@ fn push_lines<'a>(alloc: Global, args: &mut Vec<Arg<'a>>) -> Result<(), AllocErr
     push_passthru(alloc, args)
 }
 
+/// Appends the options on names above lines.
+fn push_headings<'a>(alloc: Global, args: &mut Vec<Arg<'a>>) -> Result<(), AllocError>
+    ensures { OnOk result (AddsOptions args.old.items args.new.items heading_options) }
+{
+    let (heading, none) = ("heading", "no-heading");
+    let help = "print a file's name once above its lines, and an empty line between files";
+    let arg = option(alloc, heading, ArgAction::SetTrue, help);
+    push_over(args, arg, none)?;
+    let help = "print a file's name before each of its lines, as without these options";
+    let arg = option(alloc, none, ArgAction::SetTrue, help);
+    push_over(args, arg, heading)?;
+    let help = "as --color=always --heading -n";
+    push_flag(alloc, args, "pretty", 'p', help)
+}
+
 /// Appends the options on the format of what is printed.
 pub(crate) fn push_format<'a>(alloc: Global, args: &mut Vec<Arg<'a>>) -> Result<(), AllocError>
     ensures { OnOk result (AddsOptions args.old.items args.new.items format_options) }
@@ -65,5 +80,6 @@ pub(crate) fn push_format<'a>(alloc: Global, args: &mut Vec<Arg<'a>>) -> Result<
     push_flag(alloc, args, "initial-tab", 'T', help)?;
     push_separator(alloc, args)?;
     push_no_separator(alloc, args)?;
-    push_lines(alloc, args)
+    push_lines(alloc, args)?;
+    push_headings(alloc, args)
 }

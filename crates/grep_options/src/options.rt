@@ -2,7 +2,7 @@
 ghost use Rattle.std.specs.Prelude.{◌≡◌, ◌∷◌, [], OnOk, IfOk, codes};
 ghost use Rattle.clap.specs.Words.{args_of};
 ghost use Rattle.clap.specs.declared.builder.action.ArgAction.TheVariants.{Append, Help, Set, Version};
-ghost use Rattle.grep_options.specs.CommandLine.{AddsOptions, accepted_options, case_options, color_option, directories_option};
+ghost use Rattle.grep_options.specs.CommandLine.{AddsOptions, accepted_options, case_options, color_option, count_options, directories_option};
 ghost use Rattle.grep_options.specs.CommandLine.{flag, flag_over, flag_without, folder_options, ignore_option, list_options, number_options, option, option_row, option_rows, options};
 ghost use Rattle.grep_options.specs.CommandLine.{other_options, paired_options, printing_options, quiet_option, selecting_options};
 ghost use Rattle.grep_options.specs.CommandLine.{syntax_options, turning_off, words_option};
@@ -153,16 +153,22 @@ fn push_accepted<'a>(alloc: Global, args: &mut Vec<Arg<'a>>) -> Result<(), Alloc
     push_long(alloc, args, "line-buffered", help)
 }
 
+fn push_counts<'a>(alloc: Global, args: &mut Vec<Arg<'a>>) -> Result<(), AllocError>
+    ensures { OnOk result (AddsOptions args.old.items args.new.items count_options) }
+{
+    let (lines, matches) = ("count", "count-matches");
+    let help = "print how many lines are selected";
+    push_pair(alloc, args, lines, 'c', matches, help)?;
+    let help =
+        "print how many matches the selected lines have, or with -v how many lines are selected";
+    let arg = option(alloc, matches, ArgAction::SetTrue, help);
+    push_over(args, arg, lines)
+}
+
 fn push_printing<'a>(alloc: Global, args: &mut Vec<Arg<'a>>) -> Result<(), AllocError>
     ensures { OnOk result (AddsOptions args.old.items args.new.items printing_options) }
 {
-    push_flag(
-        alloc,
-        args,
-        "count",
-        'c',
-        "print how many lines are selected",
-    )?;
+    push_counts(alloc, args)?;
     let matching = "print the matches that aren't empty, each as a line";
     push_flag(alloc, args, "only-matching", 'o', matching)?;
     let silent = "suppress messages about files that can't be read";

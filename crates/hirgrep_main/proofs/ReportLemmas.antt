@@ -30,14 +30,14 @@ searches_by b zero w s by = record {
 }
 
 -- What the search of an input returned, as one record.
-gathered : (o old new : Option (List ℕ)) (r : Result ℕ Fault) (all : List ℕ → List ℕ) (count : List ℕ → ℕ)
+gathered : (o old new : Option (List ℕ)) (r : Result ℕ Fault) (all whole : List ℕ → List ℕ) (count : List ℕ → ℕ)
     → OnOk r (IfSome o (λ text. Appends old new (all text)))
     → IfOk r (λ n. IfSome o (λ text. n ≡ count text))
-    → IfErr r (λ _. IfSome o (λ text. (n : ℕ) × Appends old new (take n (all text))))
-    → IfSome o (λ text. IsInputReported old new r (all text) (count text))
-gathered None old new r all count written counted part = _
-gathered (Some text) old new (Ok n) all count written counted part = record { written = written; counted = counted; part = _ }
-gathered (Some text) old new (Err fault) all count written counted part = record { written = _; counted = _; part = part }
+    → IfErr r (λ _. IfSome o (λ text. (n : ℕ) × Appends old new (take n (whole text))))
+    → IfSome o (λ text. IsInputReported old new r (all text) (whole text) (count text))
+gathered None old new r all whole count written counted part = _
+gathered (Some text) old new (Ok n) all whole count written counted part = record { written = written; counted = counted; part = _ }
+gathered (Some text) old new (Err fault) all whole count written counted part = record { written = _; counted = _; part = part }
 
 with_by : {A : Type 0} (r : Result ℕ Fault) (P : A → Type 0) → OnOk r ((by : A) → P by) → (by : A) → OnOk r (P by)
 with_by (Ok n) P h by = h by
@@ -52,31 +52,37 @@ err_by (Ok n) P h by = _
 err_by (Err fault) P h by = h by
 
 reported_as : (s : Sought) (v : OutputOptions) (o old new : Option (List ℕ)) (r : Result ℕ Fault)
-    (all : OutputOptions → LineMatcher → List ℕ → List ℕ) (count : OutputOptions → LineMatcher → List ℕ → ℕ)
+    (all whole : OutputOptions → LineMatcher → List ℕ → List ℕ) (count : OutputOptions → LineMatcher → List ℕ → ℕ)
     → OnOk r ((by : SearchesFor s (needs_spans v)) → IfSome o (λ text. Appends old new (all v (found_by by) text)))
     → IfOk r (λ n. (by : SearchesFor s (needs_spans v)) → IfSome o (λ text. n ≡ count v (found_by by) text))
-    → IfErr r (λ _. (by : SearchesFor s (needs_spans v)) → IfSome o (λ text. (n : ℕ) × Appends old new (take n (all v (found_by by) text))))
-    → (by : SearchesFor s (needs_spans v)) → IfSome o (λ text. IsInputReported old new r (all v (found_by by) text) (count v (found_by by) text))
-reported_as s v o old new r all count written counted part by =
-    gathered o old new r (all v (found_by by)) (count v (found_by by))
+    → IfErr r (λ _. (by : SearchesFor s (needs_spans v)) → IfSome o (λ text. (n : ℕ) × Appends old new (take n (whole v (found_by by) text))))
+    → (by : SearchesFor s (needs_spans v)) → IfSome o (λ text. IsInputReported old new r (all v (found_by by) text) (whole v (found_by by) text)
+    (count v (found_by by) text))
+reported_as s v o old new r all whole count written counted part by =
+    gathered o old new r (all v (found_by by)) (whole v (found_by by)) (count v (found_by by))
     (with_by r (λ b. IfSome o (λ text. Appends old new (all v (found_by b) text))) written by)
     (ok_by r (λ n b. IfSome o (λ text. n ≡ count v (found_by b) text)) counted by)
-    (err_by r (λ b. IfSome o (λ text. (n : ℕ) × Appends old new (take n (all v (found_by b) text)))) part by)
+    (err_by r (λ b. IfSome o (λ text. (n : ℕ) × Appends old new (take n (whole v (found_by b) text)))) part by)
 
+-- That record for the options that an input has, its name and whether it has a heading.
 pub reported_by : (s : Sought) (b : Binary) (zero : Bool) (w v : OutputOptions) (o old new : Option (List ℕ)) (r : Result ℕ Fault)
-    (given name : List ℕ) (all : List ℕ → OutputOptions → LineMatcher → List ℕ → List ℕ) (count : OutputOptions → LineMatcher → List ℕ → ℕ)
-    → v ≡ options_by b zero w → given ≡ name
-    → OnOk r ((by : SearchesFor s (needs_spans v)) → IfSome o (λ text. Appends old new (all given v (found_by by) text)))
+    (given name : List ℕ) (headed has : Bool) (all whole : Bool → List ℕ → OutputOptions → LineMatcher → List ℕ → List ℕ)
+    (count : OutputOptions → LineMatcher → List ℕ → ℕ)
+    → v ≡ options_by b zero w → given ≡ name → headed ≡ has
+    → OnOk r ((by : SearchesFor s (needs_spans v)) → IfSome o (λ text. Appends old new (all headed given v (found_by by) text)))
     → IfOk r (λ n. (by : SearchesFor s (needs_spans v)) → IfSome o (λ text. n ≡ count v (found_by by) text))
-    → IfErr r (λ _. (by : SearchesFor s (needs_spans v)) → IfSome o (λ text. (n : ℕ) × Appends old new (take n (all given v (found_by by) text))))
-    → (by : SearchesFor s (needs_spans w)) → IfSome o (λ text. IsInputReported old new r (all name (options_by b zero w) (found_by by) text)
-    (count (options_by b zero w) (found_by by) text))
+    → IfErr r (λ _. (by : SearchesFor s (needs_spans v)) → IfSome o (λ text. (n : ℕ) × Appends old new (take n (whole headed given v (found_by by) text))))
+    → (by : SearchesFor s (needs_spans w)) → IfSome o (λ text. IsInputReported old new r (all has name (options_by b zero w) (found_by by) text)
+    (whole has name (options_by b zero w) (found_by by) text) (count (options_by b zero w) (found_by by) text))
 unfolding searches_by
-reported_by s b zero w v o old new r given name all count same named written counted part by =
-    subst (λ (m : List ℕ). IfSome o (λ text. IsInputReported old new r (all m (options_by b zero w) (found_by by) text)
-    (count (options_by b zero w) (found_by by) text))) named
-    (subst (λ (u : OutputOptions). (it : SearchesFor s (needs_spans u)) → IfSome o (λ text. IsInputReported old new r (all given u (found_by it) text)
-    (count u (found_by it) text))) same (reported_as s v o old new r (all given) count written counted part) (searches_by b zero w s by))
+reported_by s b zero w v o old new r given name headed has all whole count same named is written counted part by =
+    subst (λ (h : Bool). IfSome o (λ text. IsInputReported old new r (all h name (options_by b zero w) (found_by by) text)
+    (whole h name (options_by b zero w) (found_by by) text) (count (options_by b zero w) (found_by by) text))) is
+    (subst (λ (m : List ℕ). IfSome o (λ text. IsInputReported old new r (all headed m (options_by b zero w) (found_by by) text)
+    (whole headed m (options_by b zero w) (found_by by) text) (count (options_by b zero w) (found_by by) text))) named
+    (subst (λ (u : OutputOptions). (it : SearchesFor s (needs_spans u)) → IfSome o (λ text. IsInputReported old new r
+    (all headed given u (found_by it) text) (whole headed given u (found_by it) text) (count u (found_by it) text))) same
+    (reported_as s v o old new r (all headed given) (whole headed given) count written counted part) (searches_by b zero w s by)))
 
 -- What holds of all that is searched of an input holds by its first bytes and the others.
 pub if_searched : (P : Bool → List ℕ → Type 0) (b given : Binary) (zero made : Bool) (first : List ℕ) (rest whole : Option (List ℕ))
@@ -127,14 +133,16 @@ if_text P b w e (Some text) h =
 
 -- ---- the count alone
 
-count_of_some : (o old new : Option (List ℕ)) (n : ℕ) (all : List ℕ → List ℕ) (count : List ℕ → ℕ)
-    → IfSome o (λ text. IsInputReported old new (Ok n) (all text) (count text)) → IfSome o (λ text. n ≡ count text)
-count_of_some None old new n all count h = _
-count_of_some (Some text) old new n all count h = h.counted
+count_of_some : (o old new : Option (List ℕ)) (n : ℕ) (all whole : List ℕ → List ℕ) (count : List ℕ → ℕ)
+    → IfSome o (λ text. IsInputReported old new (Ok n) (all text) (whole text) (count text)) → IfSome o (λ text. n ≡ count text)
+count_of_some None old new n all whole count h = _
+count_of_some (Some text) old new n all whole count h = h.counted
 
-pub counted_known : {S : Type 0} (o given old new : Option (List ℕ)) (r : Result ℕ Fault) (all : S → List ℕ → List ℕ) (count : S → List ℕ → ℕ)
-    → given ≡ o → ((by : S) → IfSome given (λ text. IsInputReported old new r (all by text) (count by text)))
+pub counted_known : {S : Type 0} (o given old new : Option (List ℕ)) (r : Result ℕ Fault) (all whole : S → List ℕ → List ℕ)
+    (count : S → List ℕ → ℕ) → given ≡ o
+    → ((by : S) → IfSome given (λ text. IsInputReported old new r (all by text) (whole by text) (count by text)))
     → IfOk r (λ n. (by : S) → IfSome o (λ text. n ≡ count by text))
-counted_known o given old new (Ok n) all count same h = λ by.
-    subst (λ (it : Option (List ℕ)). IfSome it (λ text. n ≡ count by text)) same (count_of_some given old new n (all by) (count by) (h by))
-counted_known o given old new (Err fault) all count same h = _
+counted_known o given old new (Ok n) all whole count same h = λ by.
+    subst (λ (it : Option (List ℕ)). IfSome it (λ text. n ≡ count by text)) same
+    (count_of_some given old new n (all by) (whole by) (count by) (h by))
+counted_known o given old new (Err fault) all whole count same h = _

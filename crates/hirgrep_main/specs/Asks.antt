@@ -1,5 +1,5 @@
 -- What each option asks for. Options are identified by their long names, under which the matches of the command line hold what was given.
-use Rattle.std.specs.Prelude.{ℕ, ◌^◌, ◌-◌, Bool, true, false, ◌||◌, ◌&&◌, nat_lt, List, codes, Option, Some, None, unwrap_or, if◌then◌else◌}
+use Rattle.std.specs.Prelude.{ℕ, ◌^◌, ◌-◌, Bool, true, false, not, ◌&&◌, ◌||◌, nat_lt, List, codes, Option, Some, None, is_some, unwrap_or, if◌then◌else◌}
 use Rattle.std.specs.Option.{option_or}
 use Rattle.clap.specs.Words.{first_value}
 use Rattle.clap.specs.declared.parser.matches.Found.{Found}
@@ -7,7 +7,7 @@ use Rattle.grep_options.specs.Options.{is_set, is_text, limit_given, number_give
 use Rattle.grep_core.specs.declared.patterns.PatternOptions.{PatternOptions}
 use Rattle.grep_core.specs.declared.output_options.Context.{Context}
 use Rattle.grep_core.specs.declared.output_options.Print.{Print}
-use Rattle.grep_core.specs.declared.output_options.Print.TheVariants.{Lines, Matches, Count, NameIfAny, NameIfNone, Nothing}
+use Rattle.grep_core.specs.declared.output_options.Print.TheVariants.{Lines, Matches, Count, CountMatches, NameIfAny, NameIfNone, Nothing}
 use Rattle.grep_core.specs.declared.output_options.GroupSeparator.{GroupSeparator}
 use Rattle.grep_core.specs.declared.output_options.OutputOptions.{OutputOptions}
 use Rattle.hirgrep_main.specs.Binaries.{binary_by}
@@ -30,13 +30,15 @@ how_of f = record {
   crlf = is_set f (codes "crlf");
 }
 
--- -q, -L, -l, -c, -o: of several options, the one that prints least takes effect.
+-- -q, -L, -l, -c, --count-matches, -o: of several options, the one that prints least takes effect. Of -c and --count-matches the later one
+-- has turned off the other. Lines that -v selects have no matches, and are counted themselves.
 abbrev pub print_of : Found → Print
 print_of f =
     if is_set f (codes "quiet") then Nothing
     else if is_set f (codes "files-without-match") then NameIfNone
     else if is_set f (codes "files-with-matches") then NameIfAny
     else if is_set f (codes "count") then Count
+    else if is_set f (codes "count-matches") then (if is_set f (codes "invert-match") then Count else CountMatches)
     else if is_set f (codes "only-matching") then Matches
     else Lines
 
@@ -61,6 +63,18 @@ color_by word is_colorful =
     if is_text (codes "always") word then true
     else if is_text (codes "auto") word then is_colorful
     else false
+
+-- --color, -p, --vimgrep: without the first one the second one marks what is printed, and the third one doesn't.
+abbrev pub color_of : Found → Bool → Bool
+color_of f is_colorful =
+    if is_some (first_value f (codes "color")) then color_by (first_value f (codes "color")) is_colorful
+    else is_set f (codes "pretty") && not (is_set f (codes "vimgrep"))
+
+-- --heading, -p, --no-heading, --vimgrep: the name of a file is printed once above its lines. The last two take precedence.
+abbrev pub has_heading : Found → Bool
+has_heading f =
+    if is_set f (codes "no-heading") || is_set f (codes "vimgrep") then false
+    else is_set f (codes "heading") || is_set f (codes "pretty")
 
 -- -h, -H, --vimgrep
 abbrev pub asked_names : Found → Names
@@ -101,18 +115,18 @@ abbrev pub most_bytes_by : Option ℕ → Option ℕ
 most_bytes_by None = None
 most_bytes_by (Some n) = if nat_lt 0 n then Some n else None
 
--- -v, -n, -b, -m, -Z, -T, --trim, and what is above. The width of numbers depends on the input.
+-- -v, -n, -p, -b, -m, -Z, -T, --trim, and what is above. The width of numbers depends on the input.
 abbrev pub what_of : Found → Bool → GroupSeparator → OutputOptions
 what_of f is_colorful groups = record {
   invert = is_set f (codes "invert-match");
   print = print_of f;
-  numbers = is_set f (codes "line-number") || has_columns f;
+  numbers = is_set f (codes "line-number") || is_set f (codes "pretty") || has_columns f;
   columns = has_columns f;
   each_match = is_set f (codes "vimgrep");
   offsets = is_set f (codes "byte-offset");
   context = context_of f;
   most = limit_given f (codes "max-count");
-  color = color_by (first_value f (codes "color")) is_colorful;
+  color = color_of f is_colorful;
   zero_names = is_set f (codes "null");
   initial_tab = is_set f (codes "initial-tab");
   trim = is_set f (codes "trim");
@@ -136,6 +150,7 @@ asked_of f is_colorful groups = record {
   silent = is_set f (codes "no-messages");
   stats = is_set f (codes "stats");
   reports_input = is_set f (codes "report-input");
+  heading = has_heading f;
 }
 
 -- What is asked for, if these patterns are searched for: with -S they decide about the case of letters.

@@ -1,7 +1,7 @@
 -- What follows from the options, and from the outcome of the files.
 use Rattle.std.specs.Prelude.{ℕ, ◌+◌, ◌-◌, ◌^◌, min, Bool, true, false, not, ◌&&◌, ◌||◌, nat_eq, nat_lt, decimal, length, Option, Some, None, if◌then◌else◌}
 use Rattle.grep_core.specs.declared.output_options.Print.{Print}
-use Rattle.grep_core.specs.declared.output_options.Print.TheVariants.{Lines, Matches, Count, NameIfAny, NameIfNone, Nothing}
+use Rattle.grep_core.specs.declared.output_options.Print.TheVariants.{Lines, Matches, Count, CountMatches, NameIfAny, NameIfNone, Nothing}
 use Rattle.grep_core.specs.declared.output_options.OutputOptions.{OutputOptions}
 use Rattle.grep_core.specs.Report.{first_of}
 use Rattle.grep_core.specs.Reporting.{prints_lines}
@@ -18,6 +18,7 @@ abbrev pub prints_nothing : Print → Bool
 prints_nothing Lines = false
 prints_nothing Matches = false
 prints_nothing Count = false
+prints_nothing CountMatches = false
 prints_nothing NameIfAny = false
 prints_nothing NameIfNone = false
 prints_nothing Nothing = true
@@ -27,6 +28,7 @@ abbrev pub prints_names_if_none : Print → Bool
 prints_names_if_none Lines = false
 prints_names_if_none Matches = false
 prints_names_if_none Count = false
+prints_names_if_none CountMatches = false
 prints_names_if_none NameIfAny = false
 prints_names_if_none NameIfNone = true
 prints_names_if_none Nothing = false
@@ -49,6 +51,10 @@ may_run_on what = prints_lines what.print && not (is_most 1 what.most) || prints
 -- No line can be selected, and nothing is printed whatever the inputs are.
 abbrev pub selects_none : OutputOptions → Bool
 selects_none what = is_most 0 what.most && not (prints_names_if_none what.print || prints_all what)
+
+-- The name of a file is printed once above its lines. Counts and names have none above them.
+abbrev pub is_headed : Bool → Print → Bool
+is_headed heading print = heading && prints_lines print
 
 -- Whether names are printed before lines, depending on whether several files may be searched.
 abbrev pub shows_names : Names → Bool → Bool

@@ -1,10 +1,10 @@
 //! What the options ask for.
-ghost use Rattle.std.specs.Prelude.{◌≡◌, ◌||◌, codes, unwrap_or};
+ghost use Rattle.std.specs.Prelude.{◌≡◌, ◌||◌, codes, if◌then◌else◌, unwrap_or};
 ghost use Rattle.clap.specs.Words.{first_value, found_of};
 ghost use Rattle.grep_core.specs.Printing.{group_text};
 ghost use Rattle.grep_options.specs.Options.{is_set};
-ghost use Rattle.hirgrep_main.specs.Asks.{all_lines, asked_names, asked_of, color_by, context_by, context_of, devices_by, directories_by, how_of};
-ghost use Rattle.hirgrep_main.specs.Asks.{group_given, has_columns, most_bytes_by, print_of, what_of};
+ghost use Rattle.hirgrep_main.specs.Asks.{all_lines, asked_names, asked_of, color_of, context_by, context_of, devices_by, directories_by, how_of};
+ghost use Rattle.hirgrep_main.specs.Asks.{group_given, has_columns, has_heading, most_bytes_by, print_of, what_of};
 
 use crate::binary::{Binary, binary_of};
 use clap::ArgMatches;
@@ -64,6 +64,8 @@ pub struct Asked<'a> {
     pub stats: bool,
     /// Reports on standard error when standard input is about to be read.
     pub reports_input: bool,
+    /// Prints the name of a file once above its lines.
+    pub heading: bool,
 }
 
 /// How patterns are interpreted.
@@ -79,7 +81,19 @@ fn how_of(matches: &ArgMatches<'_>) -> PatternOptions
     }
 }
 
-/// What is printed. Of several options, the one that prints least takes effect. Of `-l` and `-L`, the later one has turned off the other.
+/// What is counted by `--count-matches`. Lines that `-v` selects have no matches, and are counted themselves.
+fn counted_print(matches: &ArgMatches<'_>) -> Print
+    ensures { result ≡ (if is_set (found_of matches.now) (codes "invert-match") then Print.Count else Print.CountMatches) }
+{
+    if is_set(matches, "invert-match") {
+        Print::Count
+    } else {
+        Print::CountMatches
+    }
+}
+
+/// What is printed. Of several options, the one that prints least takes effect. Of `-l` and `-L`, the later one has turned off the other, and
+/// so has that of `-c` and `--count-matches`.
 fn print_of(matches: &ArgMatches<'_>) -> Print
     ensures { result ≡ print_of (found_of matches.now) }
 {
@@ -94,6 +108,9 @@ fn print_of(matches: &ArgMatches<'_>) -> Print
     }
     if is_set(matches, "count") {
         return Print::Count;
+    }
+    if is_set(matches, "count-matches") {
+        return counted_print(matches);
     }
     if is_set(matches, "only-matching") {
         return Print::Matches;
@@ -147,15 +164,27 @@ pub fn is_colorful(rt: &HostRuntime) -> bool {
     }
 }
 
-/// Whether matches and names are marked. `is_colorful` says whether standard output is a terminal that supports colours.
+/// Whether matches and names are marked, by `--color` or, without it, by `-p` if `--vimgrep` isn't given. `is_colorful` says whether
+/// standard output is a terminal that supports colours.
 fn color_of(matches: &ArgMatches<'_>, is_colorful: bool) -> bool
-    ensures { result ≡ color_by (first_value (found_of matches.now) (codes "color")) is_colorful }
+    ensures { result ≡ color_of (found_of matches.now) is_colorful }
 {
     match matches.get_str("color") {
         Some("always") => true,
         Some("auto") => is_colorful,
-        _ => false,
+        Some(_) => false,
+        None => is_set(matches, "pretty") && !is_set(matches, "vimgrep"),
     }
+}
+
+/// Whether the name of a file is printed once above its lines. Of `--heading` and `--no-heading`, the later one has turned off the other.
+fn has_heading(matches: &ArgMatches<'_>) -> bool
+    ensures { result ≡ has_heading (found_of matches.now) }
+{
+    if is_set(matches, "no-heading") || is_set(matches, "vimgrep") {
+        return false;
+    }
+    is_set(matches, "heading") || is_set(matches, "pretty")
 }
 
 /// Whether file names are printed before lines. Of `-h` and `-H`, the later one has turned off the other. `--vimgrep` asks for names too.
@@ -251,7 +280,9 @@ fn what_of<'a>(matches: &ArgMatches<'a>, is_colorful: bool) -> OutputOptions<'a>
     OutputOptions {
         invert: is_set(matches, "invert-match"),
         print: print_of(matches),
-        numbers: is_set(matches, "line-number") || has_columns(matches),
+        numbers: is_set(matches, "line-number")
+            || is_set(matches, "pretty")
+            || has_columns(matches),
         columns: has_columns(matches),
         each_match: is_set(matches, "vimgrep"),
         offsets: is_set(matches, "byte-offset"),
@@ -284,5 +315,6 @@ pub fn asked_of<'a>(matches: &ArgMatches<'a>, is_colorful: bool) -> Asked<'a>
         silent: is_set(matches, "no-messages"),
         stats: is_set(matches, "stats"),
         reports_input: is_set(matches, "report-input"),
+        heading: has_heading(matches),
     }
 }

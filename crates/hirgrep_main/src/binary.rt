@@ -42,7 +42,7 @@ pub fn prints_lines(print: Print) -> bool
 {
     match print {
         Print::Lines | Print::Matches => true,
-        Print::Count | Print::NameIfAny | Print::NameIfNone | Print::Nothing => false,
+        _ => false,
     }
 }
 

@@ -3,62 +3,17 @@ ghost use Rattle.std.specs.Prelude.{◌≡◌, ◌++◌, IfSome};
 ghost use Rattle.grep_core.specs.Reporting.{needs_spans};
 ghost use Rattle.grep_core.specs.Searchers.{SearchesFor, found_by};
 ghost use Rattle.hirgrep_main.specs.Binaries.{has_zero, searched_bytes};
-ghost use Rattle.hirgrep_main.specs.Tasks.{IsInputReported, count_for, count_of, options_for, options_in, report_for, report_of};
+ghost use Rattle.hirgrep_main.specs.Tasks.{IsInputReported, count_for, count_of, report_for, report_in, whole_report_for, whole_report_in};
 
-use crate::binary::{Binary, is_noticed, options_by};
+use crate::binary::{Binary, is_noticed};
 use crate::first_bytes::{Searched, has_zero, read_first};
 use crate::messages::report_reason;
+use crate::outcome::Outcome;
+use crate::reporting::report_reader;
 use crate::task::Task;
-use grep_core::{Fault, Finder, OutputOptions, SeparatorState, report_input};
-use std::alloc::Global;
+use grep_core::{Fault, Finder, Headed};
 use std::io::{Read, Write};
 use std::rt::Runtime;
-
-/// The output options for the input that is searched, whatever its bytes are.
-fn options_in<'a>(task: Task<'a>) -> OutputOptions<'a>
-    ensures { result ≡ options_in task.entry }
-{
-    OutputOptions {
-        width: task.width,
-        ..task.asked.what
-    }
-}
-
-/// The output options for the input that is searched, given whether it is binary.
-fn options_for<'a>(task: Task<'a>, zero: bool) -> OutputOptions<'a>
-    ensures { result ≡ options_for task.entry zero }
-{
-    options_by(task.asked.binary, zero, options_in(task))
-}
-
-/// Searches the input of a reader, and writes the output for it: the report that was asked for, under this name. `zero` says whether the
-/// input is binary.
-fn report_reader<R: Read, W: Write>(
-    alloc: Global,
-    finder: &mut Finder<'_>,
-    task: Task<'_>,
-    zero: bool,
-    known: SeparatorState,
-    name: &str,
-    reader: &mut R,
-    writer: &mut W,
-) -> Result<u64, Fault>
-    ensures same { finder.new ≡ finder.old }
-    ensures reported { (by : SearchesFor finder.old (needs_spans task.entry.asked.now.what)) → IfSome (R.remaining reader.old) (λ bytes.
-        IsInputReported (W.contents writer.old) (W.contents writer.new) result
-        (report_for task.entry zero (found_by by) name.now known bytes) (count_for task.entry zero (found_by by) bytes)) }
-{
-    report_input(
-        alloc,
-        finder,
-        &options_for(task, zero),
-        name.as_bytes(),
-        task.with_name,
-        known,
-        reader,
-        writer,
-    )
-}
 
 /// Reports that a binary input has a selected line, if that is printed instead of its lines.
 fn report_notice(
@@ -78,16 +33,18 @@ fn report_first<R: Read, W: Write>(
     rt: &HostRuntime,
     finder: &mut Finder<'_>,
     task: Task<'_>,
-    known: SeparatorState,
+    outcome: Outcome,
     name: &str,
     first: &[u8],
     reader: &mut R,
-    writer: &mut W,
+    writer: &mut Headed<W>,
 ) -> Result<u64, Fault>
     ensures same { finder.new ≡ finder.old }
     ensures reported { (by : SearchesFor finder.old (needs_spans task.entry.asked.now.what)) → IfSome (R.remaining reader.old) (λ text.
-        IsInputReported (W.contents writer.old) (W.contents writer.new) result
-        (report_for task.entry (has_zero first.now) (found_by by) name.now known
+        IsInputReported (W.contents writer.old.writer) (W.contents writer.new.writer) result
+        (report_for task.entry (has_zero first.now) outcome (found_by by) name.now
+        (searched_bytes task.entry.asked.now.binary (has_zero first.now) (first.now ++ text)))
+        (whole_report_for task.entry (has_zero first.now) outcome (found_by by) name.now
         (searched_bytes task.entry.asked.now.binary (has_zero first.now) (first.now ++ text)))
         (count_for task.entry (has_zero first.now) (found_by by)
         (searched_bytes task.entry.asked.now.binary (has_zero first.now) (first.now ++ text)))) }
@@ -99,7 +56,7 @@ fn report_first<R: Read, W: Write>(
         finder,
         task,
         zero,
-        known,
+        outcome,
         name,
         &mut whole,
         writer,
@@ -113,22 +70,23 @@ fn report_binary<R: Read, W: Write>(
     rt: &HostRuntime,
     finder: &mut Finder<'_>,
     task: Task<'_>,
-    known: SeparatorState,
+    outcome: Outcome,
     name: &str,
     reader: &mut R,
-    writer: &mut W,
+    writer: &mut Headed<W>,
 ) -> Result<u64, Fault>
     ensures same { finder.new ≡ finder.old }
     ensures reported { (by : SearchesFor finder.old (needs_spans task.entry.asked.now.what)) → IfSome (R.remaining reader.old) (λ text.
-        IsInputReported (W.contents writer.old) (W.contents writer.new) result
-        (report_of task.entry (found_by by) name.now known text) (count_of task.entry (found_by by) text)) }
+        IsInputReported (W.contents writer.old.writer) (W.contents writer.new.writer) result
+        (report_in task.entry outcome (found_by by) name.now text) (whole_report_in task.entry outcome (found_by by) name.now text)
+        (count_of task.entry (found_by by) text)) }
 {
     match read_first(rt.alloc(), reader) {
         Ok(first) => report_first(
             rt,
             finder,
             task,
-            known,
+            outcome,
             name,
             first.as_slice(),
             reader,
@@ -144,15 +102,16 @@ pub fn report_one<R: Read, W: Write>(
     rt: &HostRuntime,
     finder: &mut Finder<'_>,
     task: Task<'_>,
-    known: SeparatorState,
+    outcome: Outcome,
     name: &str,
     reader: &mut R,
-    writer: &mut W,
+    writer: &mut Headed<W>,
 ) -> Result<u64, Fault>
     ensures same { finder.new ≡ finder.old }
     ensures reported { (by : SearchesFor finder.old (needs_spans task.entry.asked.now.what)) → IfSome (R.remaining reader.old) (λ text.
-        IsInputReported (W.contents writer.old) (W.contents writer.new) result
-        (report_of task.entry (found_by by) name.now known text) (count_of task.entry (found_by by) text)) }
+        IsInputReported (W.contents writer.old.writer) (W.contents writer.new.writer) result
+        (report_in task.entry outcome (found_by by) name.now text) (whole_report_in task.entry outcome (found_by by) name.now text)
+        (count_of task.entry (found_by by) text)) }
 {
     match task.asked.binary {
         Binary::AsText => report_reader(
@@ -160,11 +119,11 @@ pub fn report_one<R: Read, W: Write>(
             finder,
             task,
             false,
-            known,
+            outcome,
             name,
             reader,
             writer,
         ),
-        _ => report_binary(rt, finder, task, known, name, reader, writer),
+        _ => report_binary(rt, finder, task, outcome, name, reader, writer),
     }
 }

@@ -21,6 +21,7 @@ mod messages;
 mod outcome;
 mod output;
 mod patterns;
+mod reporting;
 mod searching;
 mod selecting_files;
 mod shown;

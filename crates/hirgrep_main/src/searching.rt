@@ -29,8 +29,8 @@ use crate::smart_case::ignores_case;
 use crate::task::{Task, shown_name};
 use crate::walking::{Kind, is_output, kind_of, output_file, push_folder, push_found};
 use grep_core::{
-    Fault, Finder, LinePatterns, OutputOptions, PatternOptions, Print, SearcherError, config_of,
-    needs_spans, pattern_source,
+    Fault, Finder, Headed, LinePatterns, OutputOptions, PatternOptions, Print, SearcherError,
+    config_of, needs_spans, pattern_source,
 };
 use std::alloc::{AllocError, Global};
 use std::io::{Read, Write};
@@ -89,26 +89,18 @@ fn search_reader<R: Read + Drop, W: Write + Drop>(
     ensures continues { Continues outcome.old outcome.new }
 {
     let mut reader = Counting::new(reader);
-    let mut writer = Output::new(writer);
-    let reported = report_one(
-        rt,
-        finder,
-        task,
-        outcome.known(),
-        name,
-        &mut reader,
-        &mut writer,
-    );
+    let mut writer = Headed::new(rt.alloc(), Output::new(writer));
+    let reported = report_one(rt, finder, task, *outcome, name, &mut reader, &mut writer);
     outcome.keep_search(
         rt,
         task.asked,
         name,
         reader.count(),
-        writer.wrote(),
+        writer.writer.wrote(),
         reported,
         Causes {
             read: reader.code(),
-            write: writer.code(),
+            write: writer.writer.code(),
         },
     );
 }

@@ -7,4 +7,5 @@ returns c =
     let two = joined c.in_ok-push_flag.ensures c.in_ok-push_flag-2.ensures in
     let three = joined two c.in_ok-push_separator.ensures in
     let four = joined three c.in_ok-push_no_separator.ensures in
-    on_ok_weaker c.push_lines.result (λ p. joined four p) c.push_lines.ensures
+    let five = joined four c.in_ok-push_lines.ensures in
+    on_ok_weaker c.push_headings.result (λ p. joined five p) c.push_headings.ensures

@@ -4,8 +4,8 @@ use Rattle.grep_options.proofs.options.push_printing.Goals as goal
 
 pub returns : goal.returns
 returns c =
-    let two = joined c.in_ok-push_flag.ensures c.in_ok-push_flag-2.ensures in
-    let three = joined two c.in_ok-push_flag-3.ensures in
-    let four = joined three c.in_ok-push_flag-4.ensures in
-    let five = joined four c.in_ok-push_flag-5.ensures in
+    let two = joined c.in_ok-push_counts.ensures c.in_ok-push_flag.ensures in
+    let three = joined two c.in_ok-push_flag-2.ensures in
+    let four = joined three c.in_ok-push_flag-3.ensures in
+    let five = joined four c.in_ok-push_flag-4.ensures in
     on_ok_weaker c.push_quiet.result (λ p. joined five p) c.push_quiet.ensures
