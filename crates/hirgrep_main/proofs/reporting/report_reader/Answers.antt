@@ -16,8 +16,8 @@ returns-then-is_headed-clause-reported g c =
     (sym c.if-is_headed.true ∙ (c.is_headed.ensures ∙ ap (λ v. is_headed c.args.task.asked.now.heading v.print) c.options_for-what.ensures))
     c.report_headed.ensures.reported c.report_headed.ensures.selected c.report_headed.ensures.fault
 
-pub returns-else-is_headed-clause-reported : goal.returns-else-is_headed-clause-reported
-returns-else-is_headed-clause-reported g c =
+pub returns-clause-reported : goal.returns-clause-reported
+returns-clause-reported g c =
     reported_by c.args.finder.now c.args.task.asked.now.binary c.args.zero (options_in c.args.task) c.options_for-what.result
     (g.R.Read.remaining c.args.reader.now) (g.W.Write.contents c.args.writer.now.writer) (g.W.Write.contents c.report_input.new.writer)
     c.report_input.result c.as_bytes.result.now c.args.name.now false (has_heading_for c.args.task c.args.zero)
