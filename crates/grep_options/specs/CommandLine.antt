@@ -98,13 +98,23 @@ syntax_options =
     ∷ []
 
 abbrev pub ignore_option : OptionRow
-ignore_option = record (flag_over (codes "ignore-case") (codes "i") (codes "no-ignore-case")) { other_letters = codes "y" }
+ignore_option = record (flag (codes "ignore-case") (codes "i")) {
+  other_letters = codes "y";
+  turns_off = codes "smart-case" ∷ codes "no-ignore-case" ∷ [];
+}
 
--- Of these two the later one takes effect.
+abbrev pub no_ignore_option : OptionRow
+no_ignore_option = record (flag (codes "no-ignore-case") []) { turns_off = codes "smart-case" ∷ codes "ignore-case" ∷ [] }
+
+abbrev pub smart_option : OptionRow
+smart_option = record (flag (codes "smart-case") (codes "S")) { turns_off = codes "ignore-case" ∷ codes "no-ignore-case" ∷ [] }
+
+-- Of these the last one takes effect.
 abbrev pub case_options : List OptionRow
 case_options =
     ignore_option
-    ∷ flag_over (codes "no-ignore-case") [] (codes "ignore-case")
+    ∷ no_ignore_option
+    ∷ smart_option
     ∷ []
 
 abbrev pub selecting_options : List OptionRow
@@ -228,11 +238,30 @@ format_options =
     ∷ no_separator
     ∷ (line_options ++ heading_options)
 
--- These change nothing: any file is text, no carriage return is removed, and lines are written before more input is read.
+-- Which files with zero bytes are text. Of these three the last one takes effect. The last of them has no long name.
+abbrev pub text_option : OptionRow
+text_option = record (flag (codes "text") (codes "a")) { turns_off = codes "binary-files" ∷ codes "skip-binary" ∷ [] }
+
+abbrev pub given_type : OptionRow
+given_type = record (option (codes "binary-files") [] Set) { turns_off = codes "text" ∷ codes "skip-binary" ∷ [] }
+
+abbrev pub short_flag : List ℕ → List ℕ → OptionRow
+short_flag name letter = record (flag name letter) { long = None }
+
+abbrev pub skip_option : OptionRow
+skip_option = record (short_flag (codes "skip-binary") (codes "I")) { turns_off = codes "text" ∷ codes "binary-files" ∷ [] }
+
+abbrev pub binary_options : List OptionRow
+binary_options =
+    text_option
+    ∷ given_type
+    ∷ skip_option
+    ∷ []
+
+-- These change nothing: no carriage return is removed, and lines are written before more input is read.
 abbrev pub accepted_options : List OptionRow
 accepted_options =
-    flag (codes "text") (codes "a")
-    ∷ flag (codes "binary") (codes "U")
+    flag (codes "binary") (codes "U")
     ∷ flag (codes "line-buffered") []
     ∷ []
 
@@ -265,4 +294,4 @@ options =
     ++ (selecting_options
     ++ (printing_options
     ++ (folder_options
-    ++ (file_options ++ (paired_options ++ (number_options ++ (accepted_options ++ (format_options ++ other_options))))))))))
+    ++ (file_options ++ (paired_options ++ (number_options ++ (binary_options ++ (accepted_options ++ (format_options ++ other_options)))))))))))

@@ -4,6 +4,8 @@
 //! `specs/Options.antt` defines what they return.
 #![tactic(auto)]
 
+mod binary;
+mod case;
 mod files;
 mod format;
 mod headings;

@@ -173,11 +173,11 @@ fn is_awaiting_file(word: &str) -> bool
         || word == "--type-not"
 }
 
-/// Whether the word is an option on the format of what is printed, whose value is the next word.
+/// Whether the word is an option on what is printed, whose value is the next word.
 fn is_awaiting_format(word: &str) -> bool
     ensures { result ≡ is_awaiting_format word.now }
 {
-    word == "--group-separator" || word == "--max-columns"
+    word == "--group-separator" || word == "--max-columns" || word == "--binary-files"
 }
 
 /// Whether the word is a long option whose value is the next word.

@@ -7,6 +7,8 @@ ghost use Rattle.grep_options.specs.CommandLine.{flag, flag_over, flag_without, 
 ghost use Rattle.grep_options.specs.CommandLine.{other_options, paired_options, printing_options, quiet_option, selecting_options};
 ghost use Rattle.grep_options.specs.CommandLine.{syntax_options, turning_off, words_option};
 
+use crate::binary::push_binary;
+use crate::case::{push_no_ignore, push_smart};
 use crate::files::push_files;
 use crate::format::push_format;
 use crate::headings::heading_of;
@@ -130,6 +132,7 @@ fn push_ignore<'a>(alloc: Global, args: &mut Vec<Arg<'a>>) -> Result<(), AllocEr
     let help = "letters match in either case; -y is the same";
     let arg = option(alloc, "ignore-case", ArgAction::SetTrue, help);
     let arg = arg.short('i').short_alias('y')?;
+    let arg = arg.overrides_with("smart-case")?;
     push_over(args, arg, "no-ignore-case")
 }
 
@@ -137,9 +140,8 @@ fn push_case<'a>(alloc: Global, args: &mut Vec<Arg<'a>>) -> Result<(), AllocErro
     ensures { OnOk result (AddsOptions args.old.items args.new.items case_options) }
 {
     push_ignore(alloc, args)?;
-    let help = "letters match in their own case, also after -i";
-    let arg = option(alloc, "no-ignore-case", ArgAction::SetTrue, help);
-    push_over(args, arg, "ignore-case")
+    push_no_ignore(alloc, args)?;
+    push_smart(alloc, args)
 }
 
 fn push_selecting<'a>(alloc: Global, args: &mut Vec<Arg<'a>>) -> Result<(), AllocError>
@@ -156,7 +158,6 @@ fn push_selecting<'a>(alloc: Global, args: &mut Vec<Arg<'a>>) -> Result<(), Allo
 fn push_accepted<'a>(alloc: Global, args: &mut Vec<Arg<'a>>) -> Result<(), AllocError>
     ensures { OnOk result (AddsOptions args.old.items args.new.items accepted_options) }
 {
-    push_flag(alloc, args, "text", 'a', "accepted: every file is text")?;
     let binary = "accepted: no carriage return is removed";
     push_flag(alloc, args, "binary", 'U', binary)?;
     let help = "accepted: selected lines are always written before more input is read";
@@ -406,6 +407,7 @@ fn push_all<'a>(alloc: Global, args: &mut Vec<Arg<'a>>) -> Result<(), AllocError
     push_files(alloc, args)?;
     push_pairs(alloc, args)?;
     push_numbers(alloc, args)?;
+    push_binary(alloc, args)?;
     push_accepted(alloc, args)?;
     push_format(alloc, args)?;
     push_others(alloc, args)

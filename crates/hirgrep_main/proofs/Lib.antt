@@ -1,3 +1,6 @@
 mod SelectingLemmas
+pub mod BinaryLemmas
 pub mod GivenLemmas
 pub mod OutcomeLemmas
+pub mod ReportLemmas
+pub mod SmartLemmas

@@ -10,6 +10,8 @@ use Rattle.grep_core.specs.declared.output_options.Print.{Print}
 use Rattle.grep_core.specs.declared.output_options.Print.TheVariants.{Lines, Matches, Count, CountMatches, NameIfAny, NameIfNone, Nothing}
 use Rattle.grep_core.specs.declared.output_options.GroupSeparator.{GroupSeparator}
 use Rattle.grep_core.specs.declared.output_options.OutputOptions.{OutputOptions}
+use Rattle.hirgrep_main.specs.Binaries.{binary_by}
+use Rattle.hirgrep_main.specs.SmartCase.{ignores_case}
 use Rattle.hirgrep_main.specs.declared.asked.Asked.{Asked}
 use Rattle.hirgrep_main.specs.declared.asked.Devices.{Devices}
 use Rattle.hirgrep_main.specs.declared.asked.Devices.TheVariants.{ReadAll, ReadNamed, SkipAll}
@@ -133,11 +135,13 @@ what_of f is_colorful groups = record {
   groups = groups;
 }
 
--- -R, -s, --stats, and what is above
+-- -S, -R, -s, --stats, and what is above
 abbrev pub asked_of : Found → Bool → GroupSeparator → Asked
 asked_of f is_colorful groups = record {
   how = how_of f;
+  smart_case = is_set f (codes "smart-case");
   what = what_of f is_colorful groups;
+  binary = binary_by (first_value f (codes "binary-files")) (is_set f (codes "skip-binary"));
   names = asked_names f;
   directories = directories_by (first_value f (codes "directories"))
       (is_set f (codes "recursive") || is_set f (codes "dereference-recursive"));
@@ -148,3 +152,7 @@ asked_of f is_colorful groups = record {
   reports_input = is_set f (codes "report-input");
   heading = has_heading f;
 }
+
+-- What is asked for, if these patterns are searched for: with -S they decide about the case of letters.
+abbrev pub with_case : Asked → List (List ℕ) → Asked
+with_case a texts = record a { how = record (a.how) { ignore_case = a.how.ignore_case || (a.smart_case && ignores_case texts) } }

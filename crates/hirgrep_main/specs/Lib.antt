@@ -1,8 +1,10 @@
 pub mod Asks
+pub mod Binaries
 pub mod Decisions
 pub mod FileTypes
 pub mod Given
 pub mod Outcomes
 pub mod Selecting
+pub mod SmartCase
 pub mod Tasks
 pub mod Walking

@@ -6,6 +6,7 @@ ghost use Rattle.grep_options.specs.Options.{is_set};
 ghost use Rattle.hirgrep_main.specs.Asks.{all_lines, asked_names, asked_of, color_of, context_by, context_of, devices_by, directories_by, how_of};
 ghost use Rattle.hirgrep_main.specs.Asks.{group_given, has_columns, has_heading, most_bytes_by, print_of, what_of};
 
+use crate::binary::{Binary, binary_of};
 use clap::ArgMatches;
 use grep_core::{Context, GroupSeparator, OutputOptions, PatternOptions, Print};
 use grep_options::{is_set, limit, number};
@@ -48,7 +49,11 @@ pub enum Devices {
 #[derive(Clone, Copy)]
 pub struct Asked<'a> {
     pub how: PatternOptions,
+    /// Letters match in either case if the patterns ask for it by having no capital letter.
+    pub smart_case: bool,
     pub what: OutputOptions<'a>,
+    /// What is printed of inputs with zero bytes.
+    pub binary: Binary,
     pub names: Names,
     pub directories: Directories,
     /// Follows links that are found in folders.
@@ -300,7 +305,9 @@ pub fn asked_of<'a>(matches: &ArgMatches<'a>, is_colorful: bool) -> Asked<'a>
 {
     Asked {
         how: how_of(matches),
+        smart_case: is_set(matches, "smart-case"),
         what: what_of(matches, is_colorful),
+        binary: binary_of(matches),
         names: names_of(matches),
         directories: directories_of(matches),
         follows: is_set(matches, "dereference-recursive"),

@@ -9,10 +9,13 @@ ghost use Rattle.hirgrep_main.specs.Outcomes.{no_outcome, with_failure};
 
 mod arguments;
 mod asked;
+mod binary;
 mod columns;
 mod counting;
 mod file_types;
+mod first_bytes;
 mod input;
+mod input_report;
 mod loops;
 mod messages;
 mod outcome;
@@ -23,6 +26,7 @@ mod retrying;
 mod searching;
 mod selecting_files;
 mod shown;
+mod smart_case;
 mod task;
 mod walking;
 

@@ -1,9 +1,8 @@
 //! Searches files, one after the other.
 ghost use Rattle.std.specs.Prelude.{◌≡◌, ℕ, Bool, true, false, Result, Ok, IfErr, IfOk, IfSome, OnOk, codes, map, string_bytes, if◌then◌else◌};
 ghost use Rattle.grep_core.specs.Meant.{written};
-ghost use Rattle.grep_core.specs.Report.{counted_as, selected_count};
 ghost use Rattle.grep_core.specs.Searchers.{SearchesFor, found_by};
-ghost use Rattle.grep_core.specs.Reporting.{needs_spans, prints_lines};
+ghost use Rattle.grep_core.specs.Reporting.{needs_spans};
 ghost use Rattle.grep_core.specs.declared.fault.Fault.{Fault as TheFault};
 ghost use Rattle.hirgrep_main.specs.Decisions.{counted, is_most, may_run_on, prints_all, prints_names_if_none, reads_found, reads_named, selects_none};
 ghost use Rattle.hirgrep_main.specs.Decisions.{shows_names};
@@ -13,21 +12,25 @@ ghost use Rattle.hirgrep_main.specs.declared.walking.Kind.TheVariants.{Link, Dev
 ghost use Rattle.hirgrep_main.specs.Selecting.{depth_in, enters, selection, skips_found};
 ghost use Rattle.hirgrep_main.specs.Walking.{Tries, is_folder, is_folder_kind, is_left_out, leaves_out, may_be_several, named_by};
 ghost use Rattle.hirgrep_main.specs.Outcomes.{Continues, after_search, no_outcome, with_failure};
+ghost use Rattle.hirgrep_main.specs.Asks.{with_case};
+ghost use Rattle.hirgrep_main.specs.Tasks.{count_of};
 
 use crate::asked::{Asked, Devices, Directories, Names};
+use crate::binary::prints_lines;
 use crate::columns::width_at;
 use crate::counting::Counting;
 use crate::input::input;
+use crate::input_report::report_one;
 use crate::messages::{Causes, report_no_finder};
 use crate::outcome::Outcome;
 use crate::output::Output;
-use crate::reporting::report_reader;
 use crate::selecting_files::Selection;
+use crate::smart_case::ignores_case;
 use crate::task::{Task, shown_name};
 use crate::walking::{Kind, is_output, kind_of, output_file, push_folder, push_found};
 use grep_core::{
-    Fault, Finder, Headed, LinePatterns, OutputOptions, Print, SearcherError, config_of,
-    needs_spans, pattern_source,
+    Fault, Finder, Headed, LinePatterns, OutputOptions, PatternOptions, Print, SearcherError,
+    config_of, needs_spans, pattern_source,
 };
 use std::alloc::{AllocError, Global};
 use std::io::{Read, Write};
@@ -81,22 +84,13 @@ fn search_reader<R: Read + Drop, W: Write + Drop>(
     ensures came { (reported : Result ℕ TheFault) × (bytes : ℕ) × (wrote : Bool)
         × (outcome.new ≡ after_search task.entry.asked.now.what.print outcome.old bytes wrote reported)
         × IfOk reported (λ n. (by : SearchesFor finder.old (needs_spans task.entry.asked.now.what)) →
-        IfSome (R.remaining reader) (λ text.
-        n ≡ counted_as task.entry.asked.now.what.print (selected_count task.entry.asked.now.what (found_by by) text))) }
+        IfSome (R.remaining reader) (λ text. n ≡ count_of task.entry (found_by by) text)) }
     ensures counted { outcome.new.files ≡ counted outcome.old.files 1 }
     ensures continues { Continues outcome.old outcome.new }
 {
     let mut reader = Counting::new(reader);
     let mut writer = Headed::new(rt.alloc(), Output::new(writer));
-    let reported = report_reader(
-        rt.alloc(),
-        finder,
-        task,
-        *outcome,
-        name,
-        &mut reader,
-        &mut writer,
-    );
+    let reported = report_one(rt, finder, task, *outcome, name, &mut reader, &mut writer);
     outcome.keep_search(
         rt,
         task.asked,
@@ -109,15 +103,6 @@ fn search_reader<R: Read + Drop, W: Write + Drop>(
             write: writer.writer.code(),
         },
     );
-}
-
-pub fn prints_lines(print: Print) -> bool
-    ensures { result ≡ prints_lines print }
-{
-    match print {
-        Print::Lines | Print::Matches => true,
-        _ => false,
-    }
 }
 
 fn prints_names_if_none(print: Print) -> bool
@@ -763,6 +748,20 @@ fn search_words(
     search_texts(rt, asked, patterns, texts, &sought, files)
 }
 
+/// What is asked for, with the case of letters that these patterns ask for under smart case. They are in the syntax that is parsed.
+fn with_case<'a>(asked: &Asked<'a>, texts: &[&str]) -> Asked<'a>
+    ensures { result ≡ with_case asked.now (map (λ s. s.now) texts.now) }
+{
+    let ignore_case = asked.how.ignore_case || asked.smart_case && ignores_case(texts);
+    Asked {
+        how: PatternOptions {
+            ignore_case,
+            ..asked.how
+        },
+        ..*asked
+    }
+}
+
 /// Compiles the patterns, and searches files for them.
 pub fn search(
     rt: &HostRuntime,
@@ -773,5 +772,6 @@ pub fn search(
     let patterns = strs_of(rt.alloc(), patterns)?;
     let texts = texts_of(rt.alloc(), asked, patterns.as_slice())?;
     let words = strs_of(rt.alloc(), texts.as_slice())?;
-    search_words(rt, asked, patterns.as_slice(), words.as_slice(), files)
+    let asked = with_case(asked, words.as_slice());
+    search_words(rt, &asked, patterns.as_slice(), words.as_slice(), files)
 }

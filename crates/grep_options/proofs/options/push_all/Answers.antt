@@ -12,6 +12,7 @@ returns c =
     let files = joined six c.in_ok-push_files.ensures in
     let seven = joined files c.in_ok-push_pairs.ensures in
     let eight = joined seven c.in_ok-push_numbers.ensures in
-    let nine = joined eight c.in_ok-push_accepted.ensures in
-    let ten = joined nine c.in_ok-push_format.ensures in
-    on_ok_weaker c.push_others.result (λ p. joined ten p) c.push_others.ensures
+    let nine = joined eight c.in_ok-push_binary.ensures in
+    let ten = joined nine c.in_ok-push_accepted.ensures in
+    let eleven = joined ten c.in_ok-push_format.ensures in
+    on_ok_weaker c.push_others.result (λ p. joined eleven p) c.push_others.ensures

@@ -1,10 +1,8 @@
-use Rattle.std.proofs.Common.{ap, codes}
 use Rattle.std.proofs.lemmas.Result.{on_ok_weaker}
-use Rattle.grep_options.specs.CommandLine.{turning_off}
-use Rattle.grep_options.proofs.Rows.{adds_as, joined}
+use Rattle.grep_options.proofs.Rows.{joined}
 use Rattle.grep_options.proofs.options.push_case.Goals as goal
 
 pub returns : goal.returns
 returns c =
-    let row = ap (λ r. turning_off r (codes "ignore-case")) c.option-arg.ensures in
-    on_ok_weaker c.push_over.result (λ p. joined c.in_ok-push_ignore.ensures (adds_as p row)) c.push_over.ensures
+    let two = joined c.in_ok-push_ignore.ensures c.in_ok-push_no_ignore.ensures in
+    on_ok_weaker c.push_smart.result (λ p. joined two p) c.push_smart.ensures
