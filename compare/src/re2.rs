@@ -230,6 +230,12 @@ fn compare_one(name: &str, made: &mut Made, pattern: &str, text: &str, wanted: O
     });
 }
 
+/// Whether there are the same groups but for the last ones, which took no part: a group that is repeated at most 0 times isn't counted here.
+fn lacks_groups(found: &Option<Groups>, wanted: &Option<Groups>) -> bool {
+    let (Some(found), Some(wanted)) = (found, wanted) else { return false };
+    wanted.starts_with(found) && wanted[found.len()..].iter().all(Option::is_none)
+}
+
 /// Compares the groups of the first match, of which a column has each.
 fn compare_groups(name: &str, made: &mut Made, pattern: &str, text: &str, wanted: Option<Groups>, report: &mut Report) {
     let found = made.regex.groups_at(text.as_bytes(), 0);
@@ -242,7 +248,11 @@ fn compare_groups(name: &str, made: &mut Made, pattern: &str, text: &str, wanted
         report.add(&format!("groups of the {name} match that are the same {kind}"), wanted.map_or(0, |it| it.len() as u64));
         return report.count(&format!("{name} match has the same groups {kind}"));
     }
-    let how = if made.is_loop { "apart: has other groups," } else { "DIFFERS in groups" };
+    let how = match &found {
+        Ok(found) if lacks_groups(found, &wanted) => "apart: has all groups but the last ones, which can't take part",
+        _ if made.is_loop => "apart: has other groups,",
+        _ => "DIFFERS in groups",
+    };
     report.count_with(&format!("{name} match {how} {kind}"), || {
         format!("{pattern:?} in {text:?}: {found:?}, {wanted:?} by RE2")
     });
