@@ -1,5 +1,7 @@
-// Times searches for matches with their groups by the library for C and by RE2, in turn over the same bytes. `bench/groups` builds and
-// runs it, and says what it prints.
+// Times searches for matches with their groups by the library for C, by RE2 and by the crate regex, in turn over the same bytes.
+// `bench/groups` builds and runs it, and says what it prints. The crate comes as the shared library of crate/, named by an argument. If it
+// isn't there, its columns are empty.
+#include <dlfcn.h>
 #include <re2/re2.h>
 #include <time.h>
 
@@ -84,6 +86,27 @@ Sum by_re2(const RE2 &regex, const std::string &text, int groups)
     return sum;
 }
 
+// The shared library of the crate regex.
+struct Crate {
+    void *(*regex)(const uint8_t *, size_t, bool) = nullptr;
+    void (*free)(void *) = nullptr;
+    void (*groups)(const void *, const uint8_t *, size_t, Sum *) = nullptr;
+};
+
+Crate crate_at(const char *path)
+{
+    Crate crate;
+    void *library = dlopen(path, RTLD_NOW | RTLD_LOCAL);
+    if (!library)
+        return crate;
+    crate.regex = reinterpret_cast<decltype(crate.regex)>(dlsym(library, "crate_regex"));
+    crate.free = reinterpret_cast<decltype(crate.free)>(dlsym(library, "crate_free"));
+    crate.groups = reinterpret_cast<decltype(crate.groups)>(dlsym(library, "crate_groups"));
+    if (!crate.regex || !crate.free || !crate.groups)
+        stop("the library of the crate regex has other calls: run bench/crate/build");
+    return crate;
+}
+
 template <class Search>
 double least(int rounds, Sum &sum, const Search &search)
 {
@@ -100,16 +123,37 @@ double least(int rounds, Sum &sum, const Search &search)
     return best;
 }
 
+// The cells of the crate, whose regex is over bytes as ASCII, and the end of the row.
+void print_crate(const Crate &crate, const std::string &pattern, const std::string &text, int rounds, const Sum &expected, double once)
+{
+    void *regex = crate.regex ? crate.regex(bytes(pattern), pattern.size(), false) : nullptr;
+    if (!regex) {
+        printf(" | |\n");
+        return;
+    }
+    Sum sum;
+    double took = least(rounds, sum, [&] {
+        Sum it;
+        crate.groups(regex, bytes(text), text.size(), &it);
+        return it;
+    });
+    crate.free(regex);
+    if (!(sum == expected))
+        stop("the sums of the crate regex differ");
+    printf(" %.0f | %.2f |\n", took * 1e9 / sum.matches, once / took);
+}
+
 }  // namespace
 
 int main(int argc, char **argv)
 {
-    if (argc < 4) {
-        fprintf(stderr, "usage: groups ROUNDS (NAME FILE PATTERN)..\n");
+    if (argc < 5) {
+        fprintf(stderr, "usage: groups ROUNDS CRATE (NAME FILE PATTERN)..\n");
         return 2;
     }
     int rounds = atoi(argv[1]);
-    for (int at = 2; at + 2 < argc; at += 3) {
+    const Crate crate = crate_at(argv[2]);
+    for (int at = 3; at + 2 < argc; at += 3) {
         std::ifstream file(argv[at + 1], std::ios::binary);
         std::string text((std::istreambuf_iterator<char>(file)), {}), pattern = argv[at + 2];
         hanneddois_regex regex = HANNEDDOIS_EMPTY;
@@ -131,7 +175,8 @@ int main(int argc, char **argv)
         double re2 = least(rounds, third, [&] { return by_re2(theirs, text, groups); });
         if (!(first == second) || !(first == third))
             stop("the sums differ");
-        printf("| %s | %zu | %.0f | %.0f | %.0f | %.2f |\n", argv[at], first.matches, once * 1e9 / count, each * 1e9 / count, re2 * 1e9 / count, once / re2);
+        printf("| %s | %zu | %.0f | %.0f | %.0f | %.2f |", argv[at], first.matches, once * 1e9 / count, each * 1e9 / count, re2 * 1e9 / count, once / re2);
+        print_crate(crate, pattern, text, rounds, first, once);
         hanneddois_free(&regex);
     }
     return 0;

@@ -87,7 +87,9 @@ enum {
     HANNEDDOIS_CAPACITY_TOO_SMALL = 9,
     /* The haystack of a regex that is made with HANNEDDOIS_UTF8 is no UTF-8: error.start is the offset of the first
        faulty byte. */
-    HANNEDDOIS_HAYSTACK_NOT_UTF8 = 12
+    HANNEDDOIS_HAYSTACK_NOT_UTF8 = 12,
+    /* The output is longer than the room for it. The call has written its beginning, and how long it is. */
+    HANNEDDOIS_OUTPUT_TOO_SMALL = 13
 };
 
 /* One match: which pattern it is of, counted from 0, and where it starts and ends in the haystack. */
@@ -288,6 +290,41 @@ hanneddois_status hanneddois_captures_all(
     hanneddois_match *matches, size_t matches_length,
     size_t *slots, size_t slots_length, size_t width,
     size_t *count,
+    hanneddois_error *error);
+
+/* Flags of hanneddois_replace_all. */
+enum {
+    /* The replacement is written as it is: a dollar sign in it has no meaning. */
+    HANNEDDOIS_LITERAL = 1 << 0
+};
+
+/*
+ * Replaces matches: the matches of hanneddois_captures_all, or the first `limit` of them if that isn't 0. Writes to `output`
+ * the haystack with its matches replaced, as far as it fits, without a 0 after it. Writes to *length how many bytes that has
+ * in all, and to *count how many matches are replaced. The bytes of `output` after these are unchanged.
+ *
+ * The replacement is a template, as in the crate regex. In it $1, $name and ${name} stand for what groups of the match
+ * matched: $0 for the whole match, and $$ for a dollar sign. A name without braces is the longest one of ASCII letters,
+ * digits and _: $1a is the group named 1a, and ${1}a is group 1 before an a. A group that took no part in the match, and a name
+ * or a number that the match's pattern doesn't have, stands for nothing. Any other dollar sign stands for itself. So no template
+ * is an error. The bytes of a template needn't be UTF-8.
+ *
+ * Returns HANNEDDOIS_OK if a match is replaced, and HANNEDDOIS_NONE if there is none; then the output is the haystack. If
+ * the output is longer than output_length, with a match or without one, the call returns HANNEDDOIS_OUTPUT_TOO_SMALL. With
+ * *length bytes of room the same call succeeds, and with an output_length of 0 it only counts.
+ *
+ * Or it returns an error of hanneddois_captures, HANNEDDOIS_BAD_ARGUMENT also if a bit is set in `flags` that is no flag.
+ * After an error *length and *count are 0, and `output` is unchanged. The call allocates memory for the whole output. Only
+ * groups that the template has are searched for.
+ */
+hanneddois_status hanneddois_replace_all(
+    hanneddois_regex *regex,
+    const uint8_t *haystack, size_t haystack_length,
+    const uint8_t *replacement, size_t replacement_length,
+    size_t limit,
+    uint32_t flags,
+    uint8_t *output, size_t output_length,
+    size_t *length, size_t *count,
     hanneddois_error *error);
 
 /*

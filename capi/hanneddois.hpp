@@ -97,7 +97,8 @@ enum class status : hanneddois_status {
     empty_loop = HANNEDDOIS_EMPTY_LOOP,
     too_large = HANNEDDOIS_TOO_LARGE,
     capacity_too_small = HANNEDDOIS_CAPACITY_TOO_SMALL,
-    haystack_not_utf8 = HANNEDDOIS_HAYSTACK_NOT_UTF8
+    haystack_not_utf8 = HANNEDDOIS_HAYSTACK_NOT_UTF8,
+    output_too_small = HANNEDDOIS_OUTPUT_TOO_SMALL
 };
 
 /* Why a call failed, or that it didn't. What the numbers mean depends on the status: hanneddois.h
@@ -417,6 +418,28 @@ public:
     template <class String, class... Rest, detail::if_temporary_string<String> = 0>
     std::optional<match_groups> captures(String &&haystack, Rest &&...) = delete;
 
+    /*
+     * The haystack with its matches replaced, or with the first `limit` of them if that isn't 0. In a template $1, $name and
+     * ${name} stand for groups of the match, and $$ for a dollar sign, as hanneddois_replace_all has them. With
+     * replace_all_literal the replacement has no such meaning. If the call fails, the result is empty.
+     */
+    std::string replace_all(std::string_view haystack, std::string_view by, std::size_t limit = 0)
+    {
+        return replace_or(haystack, by, limit, 0, nullptr);
+    }
+    std::string replace_all(std::string_view haystack, std::string_view by, std::size_t limit, failure &why) noexcept
+    {
+        return replace_or(haystack, by, limit, 0, &why);
+    }
+    std::string replace_all_literal(std::string_view haystack, std::string_view by, std::size_t limit = 0)
+    {
+        return replace_or(haystack, by, limit, HANNEDDOIS_LITERAL, nullptr);
+    }
+    std::string replace_all_literal(std::string_view haystack, std::string_view by, std::size_t limit, failure &why) noexcept
+    {
+        return replace_or(haystack, by, limit, HANNEDDOIS_LITERAL, &why);
+    }
+
     /* All matches with their groups, each searched for when it is reached, as those of matches(). */
     captures_range captures_iter(std::string_view haystack) &;
     captures_range captures_iter(std::string_view haystack, failure &why) & noexcept;
@@ -583,6 +606,28 @@ private:
     {
         return match_groups(haystack, row, std::vector<std::size_t>(slots, slots + 2 * group_count(row.pattern)),
                             kept_names(row.pattern));
+    }
+
+    std::string replace_or(std::string_view haystack, std::string_view by, std::size_t limit, std::uint32_t flags, failure *why)
+    {
+        try {
+            std::string output(haystack.size() + haystack.size() / 8 + 64, '\0');
+            for (;;) {
+                std::size_t length = 0, count = 0;
+                hanneddois_error error;
+                const hanneddois_status ended = hanneddois_replace_all(
+                    &handle_, detail::bytes_of(haystack), haystack.size(), detail::bytes_of(by), by.size(), limit, flags,
+                    reinterpret_cast<std::uint8_t *>(output.data()), output.size(), &length, &count, &error);
+                output.resize(length);
+                if (ended == HANNEDDOIS_OUTPUT_TOO_SMALL)
+                    continue;
+                detail::report(failure(error), why);
+                return output;
+            }
+        } catch (const std::bad_alloc &) {
+            detail::report(detail::failure_of(status::no_memory), why);
+        }
+        return std::string();
     }
 
     std::optional<match_groups> captures_or(std::string_view haystack, std::size_t from, failure *why)

@@ -157,6 +157,21 @@ static hanneddois_status captures_all(hanneddois_regex *regex)
     return status;
 }
 
+/* After an error nothing is written. Each match, a k, is replaced by two. */
+static hanneddois_status replace_all(hanneddois_regex *regex)
+{
+    uint8_t output[100];
+    size_t written = 7, count = 7;
+    memset(output, 0x55, sizeof output);
+    hanneddois_status status = hanneddois_replace_all(regex, haystack, length, (const uint8_t *)"$0$0", 4, 0, 0, output, sizeof output,
+                                                      &written, &count, &error);
+    CHECK(status == HANNEDDOIS_OK ? count == 3 && written == length + 3 : count == 0 && written == 0);
+    CHECK(output[written] == 0x55);
+    if (status == HANNEDDOIS_OK)
+        CHECK(output[starts[0]] == 'k' && output[starts[0] + 1] == 'k' && output[starts[2] + 3] == 'k');
+    return status;
+}
+
 /* A second regex of the same patterns, which is freed again. */
 static hanneddois_status clone(hanneddois_regex *regex)
 {
@@ -325,6 +340,7 @@ int main(void)
     each_fails(make_with_groups, 1);
     each_fails(captures, 0);
     each_fails(captures_all, 0);
+    each_fails(replace_all, 0);
     each_fails(is_match, 0);
     each_fails(find_at, 0);
     each_fails(find_all, 0);

@@ -401,11 +401,89 @@ static void all_groups(void)
     hanneddois_free(&regex);
 }
 
+/* A call that replaces matches, with as much room as is given, which is followed by bytes that no call may write. */
+static uint8_t output[64];
+static size_t length, count;
+
+static hanneddois_status replace(hanneddois_regex *regex, const char *haystack, const char *by, size_t limit, uint32_t flags, size_t room)
+{
+    memset(output, '~', sizeof output);
+    length = count = 7;
+    memset(&error, 0x55, sizeof error);
+    hanneddois_status status = hanneddois_replace_all(regex, bytes(haystack), strlen(haystack), bytes(by), strlen(by), limit, flags,
+                                                      output, room, &length, &count, &error);
+    CHECK(error.status == status && error.cause == 0 && error.pattern == 0 && error.end == 0 && error.limit == 0);
+    for (size_t i = length < room ? length : room; i < sizeof output; i++)
+        CHECK(output[i] == '~');
+    return status;
+}
+
+/* Whether the call writes this for so many matches, into each room that is large enough, and its beginning into each that isn't. */
+static int replaces(hanneddois_regex *regex, const char *haystack, const char *by, size_t limit, uint32_t flags, size_t matches, const char *whole)
+{
+    size_t size = strlen(whole);
+    for (size_t room = 0; room < sizeof output; room++) {
+        hanneddois_status wanted = room < size ? HANNEDDOIS_OUTPUT_TOO_SMALL : matches ? HANNEDDOIS_OK : HANNEDDOIS_NONE;
+        if (replace(regex, haystack, by, limit, flags, room) != wanted || length != size || count != matches)
+            return 0;
+        if (memcmp(output, whole, room < size ? room : size) != 0)
+            return 0;
+    }
+    return 1;
+}
+
+/* Replaced matches. What is expected is what the crate regex 1.7.1 writes, or was written by hand. */
+static void replaced(void)
+{
+    hanneddois_regex regex = HANNEDDOIS_EMPTY;
+    hanneddois_options options = {0};
+    CHECK(replace(&regex, "a", "b", 0, 0, 9) == HANNEDDOIS_BAD_ARGUMENT && length == 0 && count == 0);
+    const char *dates = "on 2024-05, 1999-12";
+    CHECK(make(&regex, "(?<y>[0-9]{4})-([0-9]{2})", &options) == HANNEDDOIS_OK);
+    CHECK(replaces(&regex, dates, "$2/${y}", 0, 0, 2, "on 05/2024, 12/1999"));
+    CHECK(replaces(&regex, dates, "$2/${y}", 1, 0, 1, "on 05/2024, 1999-12"));
+    CHECK(replaces(&regex, dates, "$2/${y}", SIZE_MAX, 0, 2, "on 05/2024, 12/1999"));
+    CHECK(replaces(&regex, dates, "$2/${y}", 0, HANNEDDOIS_LITERAL, 2, "on $2/${y}, $2/${y}"));
+    CHECK(replaces(&regex, dates, "[$$$9$z$y$0]", 0, 0, 2, "on [$20242024-05], [$19991999-12]"));
+    CHECK(replaces(&regex, dates, "", 0, 0, 2, "on , "));
+    CHECK(replaces(&regex, "none", "$2", 0, 0, 0, "none"));
+    CHECK(replaces(&regex, "", "$2", 0, 0, 0, ""));
+    /* A flag that is none, also if the regex is empty. */
+    CHECK(replace(&regex, dates, "", 0, 2, 9) == HANNEDDOIS_BAD_ARGUMENT && length == 0 && count == 0);
+    CHECK(replace(&regex, dates, "", 0, 1u << 31, 9) == HANNEDDOIS_BAD_ARGUMENT && length == 0 && count == 0);
+    hanneddois_free(&regex);
+    CHECK(replace(&regex, dates, "", 0, 2, 9) == HANNEDDOIS_BAD_ARGUMENT && length == 0 && count == 0);
+
+    CHECK(make(&regex, "x*", &options) == HANNEDDOIS_OK);
+    CHECK(replaces(&regex, "axb", "-", 0, 0, 3, "-a-b-"));
+    CHECK(replaces(&regex, "axb", "-", 2, 0, 2, "-a-b"));
+    CHECK(replaces(&regex, "", "-", 0, 0, 1, "-"));
+    /* The groups of the pattern that matched. */
+    size_t lengths[2] = {3, 6};
+    CHECK(hanneddois_new(&regex, bytes("(a)(b)(c)"), 9, lengths, 2, &options, &error) == HANNEDDOIS_OK);
+    CHECK(replaces(&regex, "abc", "<$1,$2>", 0, 0, 2, "<a,><b,c>"));
+    /* A haystack that is no UTF-8. */
+    options.flags = HANNEDDOIS_UTF8;
+    CHECK(make(&regex, "(.)", &options) == HANNEDDOIS_OK);
+    CHECK(replaces(&regex, "\xc3\xa9", "$1$1", 0, 0, 1, "\xc3\xa9\xc3\xa9"));
+    memset(output, '~', sizeof output);
+    length = count = 7;
+    CHECK(hanneddois_replace_all(&regex, bytes("ab\xff"), 3, bytes("-"), 1, 0, 0, output, 9, &length, &count, &error) ==
+          HANNEDDOIS_HAYSTACK_NOT_UTF8);
+    CHECK(error.start == 2 && length == 0 && count == 0 && output[0] == '~');
+    /* The preferred ends whatever loops consume, where hanneddois_find_all may have others. */
+    options.flags = HANNEDDOIS_EMPTY_LOOPS;
+    CHECK(make(&regex, "(|a)+", &options) == HANNEDDOIS_OK);
+    CHECK(replaces(&regex, "aa", "-", 0, 0, 3, "-a-a-"));
+    hanneddois_free(&regex);
+}
+
 int main(void)
 {
     empty_handles();
     groups();
     all_groups();
+    replaced();
     clones();
     refusals();
     searches();

@@ -245,6 +245,26 @@ static void groups_have_numbers_and_names()
     CHECK(regex("(?<\xc3\xa9t\xc3\xa9>.)", flag::utf8).captures("\xe2\x98\x83")->view("\xc3\xa9t\xc3\xa9") == "\xe2\x98\x83");
 }
 
+/* What is expected is what the crate regex 1.7.1 writes, or was written by hand. */
+static void matches_are_replaced()
+{
+    regex date("(?<y>[0-9]{4})-([0-9]{2})");
+    const std::string dates = "on 2024-05, 1999-12";
+    CHECK(date.replace_all(dates, "$2/${y}") == "on 05/2024, 12/1999" && date.replace_all(dates, "$2/${y}", 1) == "on 05/2024, 1999-12");
+    CHECK(date.replace_all(dates, "[$$$9$z$y$0]") == "on [$20242024-05], [$19991999-12]");
+    CHECK(date.replace_all_literal(dates, "$2/${y}") == "on $2/${y}, $2/${y}");
+    CHECK(date.replace_all("none", "$2") == "none" && date.replace_all("", "$2").empty() && regex("x*").replace_all("axb", "-") == "-a-b-");
+    /* More room than was guessed. */
+    const std::string many(1000, 'a');
+    CHECK(regex("a").replace_all(many, "$0$0$0").size() == 3000 && regex("a").replace_all_literal(many, "bc", 2).substr(0, 5) == "bcbca");
+    failure why;
+    CHECK(date.replace_all(dates, "$2", 0, why) == "on 05, 12" && !why && date.replace_all_literal(dates, "$2", 1, why).substr(0, 5) == "on $2" && !why);
+    CHECK(regex().replace_all(dates, "$2", 0, why).empty() && why.status() == status::bad_argument);
+    regex text(".", flag::utf8);
+    CHECK(text.replace_all("ab\xff", "-", 0, why).empty() && why.status() == status::haystack_not_utf8 && why.start() == 2);
+    CHECK_THROWS(text.replace_all("\xff", "-"), error.status() == status::haystack_not_utf8);
+}
+
 static void captures_are_listed()
 {
     regex pair("(?<key>[a-z]+)=(?<value>[a-z]*)"), nothing("(x?)"), text("(.)", flag::utf8);
@@ -454,6 +474,7 @@ int main(int argc, char **argv)
     iterators_are_input_iterators();
     several_patterns_have_numbers();
     groups_have_numbers_and_names();
+    matches_are_replaced();
     captures_are_listed();
     options_change_what_matches();
     errors_say_where_and_why();

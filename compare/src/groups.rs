@@ -139,8 +139,16 @@ impl Run {
             report.add("sum of their starts", matches.iter().map(|it| it.start as u64).sum());
             report.add("sum of their ends", matches.iter().map(|it| it.end as u64).sum());
         }
+        if let Some((matches, groups)) = shown.groups {
+            report.count("cases whose groups are equal");
+            report.add("matches with equal groups", matches as u64);
+            report.add("groups of them", groups as u64);
+        }
+        if shown.replaced {
+            report.count("cases whose replaced matches are equal");
+        }
         for it in &shown.apart {
-            report.count(&format!("apart: {it}"));
+            report.count_with(&format!("apart: {it}"), || format!("{}: {:?} in {:?}", group.name, group.patterns, shown_text(text)));
         }
         let settings = both.settings;
         if !shown.differs.is_empty() {

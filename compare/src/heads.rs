@@ -2,7 +2,7 @@
 //! searches by them in this process. It tells a count and sums; where these aren't the expected ones, and where a search is
 //! refused, `hirscan` tells the list.
 
-use crate::ours::{Listed, Match, Refusal, EMPTY_LOOP, GAVE_UP, HAYSTACK_NOT_UTF8, TOO_LARGE, UNSUPPORTED};
+use crate::ours::{Groups, Listed, Match, Refusal, EMPTY_LOOP, GAVE_UP, HAYSTACK_NOT_UTF8, TOO_LARGE, UNSUPPORTED};
 use crate::settings::Settings;
 use std::io::Write;
 use std::process::{Command, Stdio};
@@ -185,6 +185,21 @@ impl Ours {
 
     pub fn find_at(&mut self, _haystack: &[u8], _from: usize) -> Result<Option<Match>, Refusal> {
         Err(unsupported())
+    }
+
+    /// Heads have no groups.
+    pub fn find_groups(&mut self, _haystack: &[u8]) -> Result<Vec<(Match, Groups)>, Refusal> {
+        Err(Refusal { status: UNSUPPORTED, ..Refusal::default() })
+    }
+
+    /// Heads replace nothing.
+    pub fn replacen(&mut self, _haystack: &[u8], _limit: usize, _template: &str) -> Result<Vec<u8>, Refusal> {
+        Err(Refusal { status: UNSUPPORTED, ..Refusal::default() })
+    }
+
+    /// Heads have no groups.
+    pub fn groups_at(&mut self, _haystack: &[u8], _from: usize) -> Result<Option<(Match, Groups)>, Refusal> {
+        Err(Refusal { status: UNSUPPORTED, ..Refusal::default() })
     }
 
     pub fn which(&mut self, _haystack: &[u8]) -> Result<Vec<bool>, Refusal> {

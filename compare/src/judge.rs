@@ -1,6 +1,7 @@
 //! One case: some patterns and a haystack, searched on both sides.
 
-use crate::ours::{Listed, Match, Ours, Refusal, GAVE_UP, HAYSTACK_NOT_UTF8, UNSUPPORTED};
+use crate::ours::{Groups, Listed, Match, Ours, Refusal, GAVE_UP, HAYSTACK_NOT_UTF8, UNSUPPORTED};
+use crate::random::Random;
 use crate::settings::Settings;
 use crate::theirs::{SetOf, Theirs, Which};
 use crate::trees::has_unicode_word;
@@ -28,6 +29,10 @@ pub struct Shown {
     pub apart: Vec<&'static str>,
     /// The matches that both sides listed, where both listed all.
     pub equal: Option<Vec<Match>>,
+    /// How many matches have the same groups, and how many groups these have; nothing where they weren't compared.
+    pub groups: Option<(usize, usize)>,
+    /// Whether replaced matches were compared and are the same.
+    pub replaced: bool,
 }
 
 impl Both {
@@ -57,6 +62,8 @@ impl Both {
         self.show_any(haystack, !wanted.is_empty(), &mut shown);
         self.show_which(haystack, &mut shown);
         self.show_from(haystack, from, &mut shown);
+        self.show_groups(haystack, &wanted, &mut shown);
+        self.show_replaced(haystack, from, &mut shown);
         let fast = self.fastest.find_all(haystack);
         if fast != wanted {
             shown.fastest.push(format!("list {fast:?} by the fastest, {wanted:?} by the simplest"));
@@ -166,5 +173,67 @@ impl Both {
         if fast != wanted {
             shown.fastest.push(format!("from {from} {fast:?} by the fastest, {wanted:?} by the simplest"));
         }
+    }
+
+    /// The matches of one pattern, replaced by a template.
+    fn show_replaced(&mut self, haystack: &[u8], from: usize, shown: &mut Shown) {
+        let (template, limit) = template_for(haystack, from);
+        let Some(wanted) = self.simplest.replacen(haystack, limit, &template) else { return };
+        match self.ours.replacen(haystack, limit, &template) {
+            Ok(found) if found == wanted => shown.replaced = true,
+            Ok(_) if self.settings.empty_loops => shown.apart.push("empty loop: something else is replaced"),
+            Ok(found) => shown.differs.push(format!(
+                "replaced by {template:?} up to {limit} {:?}, {:?} by the simplest",
+                String::from_utf8_lossy(&found),
+                String::from_utf8_lossy(&wanted)
+            )),
+            Err(refusal) if refusal.status == UNSUPPORTED => shown.apart.push("replacing isn't there"),
+            Err(refusal) => shown.differs.push(format!("replaced refused: {refusal:?}")),
+        }
+        let fast = self.fastest.replacen(haystack, limit, &template);
+        if fast != Some(wanted) {
+            shown.fastest.push(format!("replaced by {template:?} up to {limit} otherwise"));
+        }
+    }
+
+    /// All matches with their groups, whatever loops consume.
+    fn show_groups(&mut self, haystack: &[u8], wanted: &[Match], shown: &mut Shown) {
+        let wanted = self.simplest.groups_of(haystack, wanted);
+        match self.ours.find_groups(haystack) {
+            Ok(found) if found == wanted => shown.groups = Some((found.len(), found.iter().map(|it| it.1.len()).sum())),
+            Ok(found) if self.settings.empty_loops => shown.apart.push(kind_of_loop(&found, &wanted)),
+            Ok(found) => shown.differs.push(format!("groups {found:?}, {wanted:?} by the simplest")),
+            Err(refusal) if refusal.status == UNSUPPORTED => shown.apart.push("groups aren't there"),
+            Err(refusal) => shown.differs.push(format!("groups refused: {refusal:?}")),
+        }
+        let matches: Vec<Match> = wanted.iter().map(|it| it.0).collect();
+        let fast = self.fastest.groups_of(haystack, &matches);
+        if fast != wanted {
+            shown.fastest.push(format!("groups {fast:?} by the fastest, {wanted:?} by the simplest"));
+        }
+    }
+}
+
+/// What templates are made of. Random patterns name their groups n1 and n2.
+const PARTS: [&str; 26] = [
+    "a", "-", "é", "1", "{", "}", "$", "$$", "$0", "$1", "$2", "$3", "$1a", "${1}a", "$n1", "${n1}", "$n1x", "${n2}", "$9", "$10", "${ 1}",
+    "$-", "$_", "${}", "$é", "${",
+];
+
+/// A template and a limit that depend on the haystack alone.
+fn template_for(haystack: &[u8], from: usize) -> (String, usize) {
+    let sum: u64 = haystack.iter().map(|it| u64::from(*it)).sum();
+    let mut random = Random::new(sum.wrapping_mul(1_000_003).wrapping_add(from as u64));
+    let count = random.below(6);
+    let template = (0..count).map(|_| *random.pick(&PARTS)).collect();
+    (template, *random.pick(&[0, 0, 1, 2]))
+}
+
+/// In what matches of a pattern with an empty loop differ, or the groups of the same matches.
+fn kind_of_loop(found: &[(Match, Groups)], wanted: &[(Match, Groups)]) -> &'static str {
+    if found.iter().map(|it| it.0).eq(wanted.iter().map(|it| it.0)) {
+        "empty loop: the same matches with other groups"
+    } else {
+        "empty loop: other matches with groups"
     }
 }

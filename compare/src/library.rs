@@ -1,6 +1,6 @@
 //! The stack by the library for C, through its crate for Rust.
 
-use crate::ours::{Listed, Match, Refusal};
+use crate::ours::{Groups, Listed, Match, Refusal};
 use crate::settings::Settings;
 use hanneddois::{Error, Regex, RegexBuilder};
 
@@ -20,6 +20,12 @@ fn refused(error: Error) -> Refusal {
 
 fn match_of(found: hanneddois::Match) -> Match {
     Match { pattern: found.pattern(), start: found.start(), end: found.end() }
+}
+
+fn row_of(captures: &hanneddois::Captures) -> (Match, Groups) {
+    let groups: Groups = captures.iter().map(|it| it.map(|it| (it.start(), it.end()))).collect();
+    let whole = groups[0].expect("group 0 takes part");
+    (Match { pattern: captures.pattern(), start: whole.0, end: whole.1 }, groups)
 }
 
 fn builder_of(patterns: &[String], settings: &Settings) -> RegexBuilder {
@@ -69,6 +75,21 @@ impl Ours {
             Ok(matches) => Listed { matches: matches.into_iter().map(match_of).collect(), refusal: None },
             Err(error) => Listed { matches: Vec::new(), refusal: Some(refused(error)) },
         }
+    }
+
+    /// All matches with their groups, one search after the other.
+    pub fn find_groups(&mut self, haystack: &[u8]) -> Result<Vec<(Match, Groups)>, Refusal> {
+        self.0.captures_iter(haystack).map(|it| it.map(|it| row_of(&it)).map_err(refused)).collect()
+    }
+
+    /// The first match from an offset on with its groups.
+    pub fn groups_at(&mut self, haystack: &[u8], from: usize) -> Result<Option<(Match, Groups)>, Refusal> {
+        self.0.captures_at(haystack, from).map(|it| it.map(|it| row_of(&it))).map_err(refused)
+    }
+
+    /// The haystack with its first matches replaced by a template.
+    pub fn replacen(&mut self, haystack: &[u8], limit: usize, template: &str) -> Result<Vec<u8>, Refusal> {
+        self.0.replacen(haystack, limit, template).map(|it| it.into_owned()).map_err(refused)
     }
 
     /// Which patterns match anywhere.

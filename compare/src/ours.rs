@@ -21,6 +21,9 @@ pub struct Match {
     pub end: usize,
 }
 
+/// The offsets of the groups of a match, that of the whole match first; none of one that took no part.
+pub type Groups = Vec<Option<(usize, usize)>>;
+
 /// Why a call failed.
 #[derive(Clone, Copy, Debug, Default, PartialEq, Eq)]
 pub struct Refusal {

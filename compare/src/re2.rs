@@ -1,6 +1,6 @@
 //! RE2's own tables of answers, as Go's sources have them.
 
-use crate::ours::{Match, Ours, EMPTY_LOOP, UNSUPPORTED};
+use crate::ours::{Groups, Match, Ours, EMPTY_LOOP, UNSUPPORTED};
 use crate::report::Report;
 use crate::settings::Settings;
 use std::io::BufRead;
@@ -150,6 +150,12 @@ fn span_of(column: &str) -> Option<(usize, usize)> {
     Some((start.parse().ok()?, end.parse().ok()?))
 }
 
+/// The spans of the whole match and of its groups in a column; none where there is no match.
+fn groups_in(column: &str) -> Option<Groups> {
+    span_of(column)?;
+    Some(column.split(' ').map(span_of).collect())
+}
+
 impl Table {
     fn text(&mut self, line: &str, report: &mut Report) {
         let text = unquoted(line).expect("a quoted text");
@@ -192,8 +198,9 @@ impl Table {
         report.count("rows");
         let mut columns = line.split(';');
         for (name, made) in [("whole", whole), ("first", first)] {
-            let wanted = columns.next().and_then(span_of);
-            compare_one(name, made, &self.pattern, text, wanted, report);
+            let column = columns.next().unwrap_or_default();
+            compare_one(name, made, &self.pattern, text, span_of(column), report);
+            compare_groups(name, made, &self.pattern, text, groups_in(column), report);
         }
     }
 }
@@ -220,5 +227,33 @@ fn compare_one(name: &str, made: &mut Made, pattern: &str, text: &str, wanted: O
     };
     report.count_with(&format!("{name} match {how} {kind}"), || {
         format!("{pattern:?} in {text:?}: {found:?} {any:?}, {wanted:?} by RE2")
+    });
+}
+
+/// Whether there are the same groups but for the last ones, which took no part: a group that is repeated at most 0 times isn't counted here.
+fn lacks_groups(found: &Option<Groups>, wanted: &Option<Groups>) -> bool {
+    let (Some(found), Some(wanted)) = (found, wanted) else { return false };
+    wanted.starts_with(found) && wanted[found.len()..].iter().all(Option::is_none)
+}
+
+/// Compares the groups of the first match, of which a column has each.
+fn compare_groups(name: &str, made: &mut Made, pattern: &str, text: &str, wanted: Option<Groups>, report: &mut Report) {
+    let found = made.regex.groups_at(text.as_bytes(), 0);
+    if found.as_ref().is_err_and(|it| it.status == UNSUPPORTED) {
+        return;
+    }
+    let found = found.map(|it| it.map(|it| it.1));
+    let kind = if made.is_loop { "with an empty loop" } else { "" };
+    if found.as_ref() == Ok(&wanted) {
+        report.add(&format!("groups of the {name} match that are the same {kind}"), wanted.map_or(0, |it| it.len() as u64));
+        return report.count(&format!("{name} match has the same groups {kind}"));
+    }
+    let how = match &found {
+        Ok(found) if lacks_groups(found, &wanted) => "apart: has all groups but the last ones, which can't take part",
+        _ if made.is_loop => "apart: has other groups,",
+        _ => "DIFFERS in groups",
+    };
+    report.count_with(&format!("{name} match {how} {kind}"), || {
+        format!("{pattern:?} in {text:?}: {found:?}, {wanted:?} by RE2")
     });
 }

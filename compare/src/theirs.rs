@@ -1,6 +1,6 @@
 //! The crate `regex`, by two of its engines.
 
-use crate::ours::Match;
+use crate::ours::{Groups, Match};
 use crate::settings::Settings;
 use regex::internal::{Exec, ExecBuilder};
 use regex::{bytes, Regex};
@@ -60,6 +60,29 @@ impl Engine {
         }
     }
 
+    /// The groups of the first match from an offset on.
+    fn groups_at(&self, haystack: &[u8], from: usize) -> Option<Groups> {
+        match self {
+            Engine::Text(it) => {
+                let mut groups = it.capture_locations();
+                it.captures_read_at(&mut groups, text_of(haystack), from)?;
+                Some((0..groups.len()).map(|group| groups.get(group)).collect())
+            }
+            Engine::Bytes(it) => {
+                let mut groups = it.capture_locations();
+                it.captures_read_at(&mut groups, haystack, from)?;
+                Some((0..groups.len()).map(|group| groups.get(group)).collect())
+            }
+        }
+    }
+
+    fn replacen(&self, haystack: &[u8], limit: usize, template: &str) -> Vec<u8> {
+        match self {
+            Engine::Text(it) => it.replacen(text_of(haystack), limit, template).into_owned().into_bytes(),
+            Engine::Bytes(it) => it.replacen(haystack, limit, template.as_bytes()).into_owned(),
+        }
+    }
+
     /// The next place where a search may begin.
     fn offset_after(&self, haystack: &[u8], at: usize) -> usize {
         match self {
@@ -111,6 +134,20 @@ impl Theirs {
             };
         }
         matches
+    }
+
+    /// The haystack with its first matches replaced by a template. Only one pattern has that.
+    pub fn replacen(&self, haystack: &[u8], limit: usize, template: &str) -> Option<Vec<u8>> {
+        match &self.engines[..] {
+            [engine] => Some(engine.replacen(haystack, limit, template)),
+            _ => None,
+        }
+    }
+
+    /// These matches with their groups. Each is searched for from its start on, by its pattern alone.
+    pub fn groups_of(&self, haystack: &[u8], matches: &[Match]) -> Vec<(Match, Groups)> {
+        let of = |it: &Match| (*it, self.engines[it.pattern].groups_at(haystack, it.start).unwrap_or_default());
+        matches.iter().map(of).collect()
     }
 
     pub fn which(&self, haystack: &[u8]) -> Vec<bool> {

@@ -1,6 +1,7 @@
 // Answers: what different calls return about the same patterns and haystack has to fit together. The reference of a call is another call:
 // a list of matches is built of single searches, several patterns are compared with each one alone, HANNEDDOIS_UTF8 with a search without
 // it, and a regex with large caches with one that has the smallest caches and shares nothing.
+#include <algorithm>
 #include <memory>
 
 #include "handle.hpp"
@@ -182,12 +183,39 @@ void compare_offsets(Regexes &made, const Bytes &haystack, size_t from) {
     compare_finds(found, made.other.find_at(haystack, between), made.may_end_elsewhere, "a search from between finds another match");
 }
 
+// Bytes as they are replace the matches of the list. A template with the whole match alone leaves the haystack as it is.
+void compare_replaced(Handle &regex, const Bytes &haystack, size_t room, bool may_end_elsewhere) {
+    const Bytes by = {'$', '1', 0xFF}, whole = {'$', '{', '0', '}'};
+    Found all = regex.find_all(haystack, haystack.size() + 2);
+    Found replaced = regex.replace_all(haystack, by, 0, HANNEDDOIS_LITERAL, 4 * haystack.size() + 3);
+    Found some = regex.replace_all(haystack, by, 0, HANNEDDOIS_LITERAL, room);
+    Found same = regex.replace_all(haystack, whole, room, 0, haystack.size());
+    if (are_answers(replaced, some)) {
+        check(replaced.length == some.length && replaced.count == some.count, "the length of an output changes with its room");
+        check(std::equal(some.output.begin(), some.output.end(), replaced.output.begin()), "an output changes with its room");
+    }
+    if (are_answers(all, same))
+        check(same.output == haystack, "matches that are replaced by themselves change the haystack");
+    if (!are_answers(all, replaced) || may_end_elsewhere)
+        return;
+    Bytes built;
+    size_t last = 0;
+    for (const Match &each : all.list) {
+        built.insert(built.end(), haystack.begin() + last, haystack.begin() + each.start);
+        built.insert(built.end(), by.begin(), by.end());
+        last = each.end;
+    }
+    built.insert(built.end(), haystack.begin() + last, haystack.end());
+    check(replaced.count == all.count && replaced.output == built, "other matches are replaced than those of the list");
+}
+
 void compare(Regexes &made, const Case &given, const Bytes &haystack) {
     size_t room = given.failing_allocation % 8;
     compare_lists(made.all, haystack, room, made.may_end_elsewhere);
     if (!made.other.is_empty())
         compare_lists(made.other, haystack, room, made.may_end_elsewhere);
     compare_matching(made, haystack);
+    compare_replaced(made.all, haystack, room, made.may_end_elsewhere);
     for (size_t it = 0; it < MOST_FROM && it < given.calls.size() + 2; ++it) {
         size_t from = it == 0 ? 0 : it == 1 ? haystack.size() : given.calls[it - 2].value * haystack.size() / 255;
         compare_offsets(made, haystack, from);

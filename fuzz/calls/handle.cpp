@@ -1,5 +1,6 @@
 #include "handle.hpp"
 
+#include <algorithm>
 #include <cstring>
 
 namespace fuzz {
@@ -63,7 +64,7 @@ Found Handle::make(const std::vector<Bytes> &patterns, const hanneddois_options 
     found.error = filled_error();
     found.status = hanneddois_new(raw(), texts.data(), texts.size(), reinterpret_cast<const size_t *>(counts.data()), lengths.size(), &options, &found.error);
     check(found.error.status == found.status, "the status of the error isn't the one that is returned");
-    check(!is_one_of(found.status, {HANNEDDOIS_NONE, HANNEDDOIS_HAYSTACK_NOT_UTF8}) && found.status <= 12, "a regex is made with the status of a search");
+    check(!is_one_of(found.status, {HANNEDDOIS_NONE, HANNEDDOIS_HAYSTACK_NOT_UTF8}) && found.status < HANNEDDOIS_HAYSTACK_NOT_UTF8, "a regex is made with the status of a search");
     check_error(found.error, patterns);
     bool is_made = found.status == HANNEDDOIS_OK;
     check((raw()->inside != nullptr) == is_made, "a regex that isn't made isn't empty, or the other way round");
@@ -156,6 +157,27 @@ Found Handle::matching(const Bytes &haystack, size_t marks) {
     }
     check(sum == count, "the count isn't that of the marks");
     check((status == HANNEDDOIS_OK) == (count > 0), "the count doesn't fit the status");
+    return found;
+}
+
+Found Handle::replace_all(const Bytes &haystack, const Bytes &by, size_t limit, uint32_t flags, size_t room) {
+    Fenced input(haystack.data(), haystack.size()), replacement(by.data(), by.size()), output(nullptr, room);
+    memset(output.data(), UNTOUCHED, room);
+    hanneddois_error error = filled_error();
+    size_t length = 99, count = 99;
+    hanneddois_status status = hanneddois_replace_all(raw(), input.data(), input.size(), replacement.data(), replacement.size(), limit, flags,
+                                                      output.data(), room, &length, &count, &error);
+    Found found = searched(status, error, haystack);
+    found.length = length;
+    found.count = count;
+    found.output.assign(output.data(), output.data() + std::min(room, length));
+    check(found.is_answer() || (length == 0 && count == 0), "a failed call has replaced something");
+    check((status == HANNEDDOIS_OUTPUT_TOO_SMALL) == (length > room), "the status doesn't say whether there is room for the output");
+    check(status > HANNEDDOIS_NONE || (status == HANNEDDOIS_OK) == (count > 0), "the count of replaced matches doesn't fit the status");
+    check(limit == 0 || count <= limit, "more matches are replaced than the limit");
+    check(count > 0 || !found.is_answer() || length == haystack.size(), "without a match the output isn't the haystack");
+    for (size_t at = length; at < room; ++at)
+        check(output.data()[at] == UNTOUCHED, "bytes after the output are written");
     return found;
 }
 

@@ -37,7 +37,9 @@ struct Found {
     std::vector<Match> list;
     size_t count = 0;
     std::vector<uint8_t> marks;
-    bool is_answer() const { return status == HANNEDDOIS_OK || status == HANNEDDOIS_NONE; }
+    Bytes output;      // as far as there is room
+    size_t length = 0; // of the whole output
+    bool is_answer() const { return status == HANNEDDOIS_OK || status == HANNEDDOIS_NONE || status == HANNEDDOIS_OUTPUT_TOO_SMALL; }
 };
 
 inline bool is_one_of(hanneddois_status status, std::initializer_list<int> all) {
@@ -61,6 +63,7 @@ class Handle {
     Found find_at(const Bytes &haystack, size_t from);
     Found find_all(const Bytes &haystack, size_t room);
     Found matching(const Bytes &haystack, size_t marks);
+    Found replace_all(const Bytes &haystack, const Bytes &by, size_t limit, uint32_t flags, size_t room);
     Found copy_from(Handle &from);
     void end();
     void move();

@@ -8,7 +8,7 @@
 namespace fuzz {
 namespace {
 
-enum Kind { MAKE, MAKE_OTHER, IS_MATCH, FIND_AT, FIND_ALL, MATCHING, END, MOVE, COUNTS, MAKE_FAULTY, FIND_FAULTY, MATCHING_FAULTY, MESSAGE, COPY, KINDS };
+enum Kind { MAKE, MAKE_OTHER, IS_MATCH, FIND_AT, FIND_ALL, REPLACE_ALL, MATCHING, END, MOVE, COUNTS, MAKE_FAULTY, FIND_FAULTY, MATCHING_FAULTY, MESSAGE, COPY, KINDS };
 
 // What a handle was made of.
 struct Side {
@@ -25,13 +25,15 @@ Found search(Handle &handle, int kind, const Bytes &haystack, uint8_t value) {
         return handle.find_at(haystack, value * haystack.size() / 255);
     case FIND_ALL:
         return handle.find_all(haystack, value % 16);
+    case REPLACE_ALL:
+        return handle.replace_all(haystack, {'<', '$', '1', '$', '$', '$', '{', '0', '}'}, value % 4, value % 8 / 4, value);
     default:
         return handle.matching(haystack, handle.count());
     }
 }
 
 bool is_same(const Found &first, const Found &second, bool may_end_elsewhere) {
-    if (first.status != second.status || first.marks != second.marks)
+    if (first.status != second.status || first.marks != second.marks || first.output != second.output || first.length != second.length)
         return false;
     if (first.status != HANNEDDOIS_OK || may_end_elsewhere)
         return true;

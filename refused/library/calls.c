@@ -4,7 +4,7 @@
  * returned what it returns with ample memory. Prints also what is wrong, and then ends with status 1.
  *
  * After HANNEDDOIS_NO_MEMORY the outputs have to be as the header says: an empty regex, a match of 0, the matches before as they are
- * with ample memory and no other row changed, marks and a count of 0, and an error without other fields. The same call made once more
+ * with ample memory and no other row changed, marks and a count of 0, an output that is unchanged, and an error without other fields. The same call made once more
  * returns what it returns with ample memory. After the last hanneddois_free no block is held.
  */
 #include <stdio.h>
@@ -168,6 +168,18 @@ static void captures_all(hanneddois_regex *regex, struct result *result)
         CHECK(result->slots[i] == (size_t)0x5555555555555555);
 }
 
+/* A template with all groups of the widest pattern. */
+static void replace_all(hanneddois_regex *regex, struct result *result)
+{
+    static const char by[] = "<$1$2${name}$$>";
+    result->status = hanneddois_replace_all(regex, haystack(), now->length, (const uint8_t *)by, sizeof by - 1, 0, 0, result->text,
+                                            sizeof result->text, &result->number, &result->count, &result->error);
+    if (result->status > HANNEDDOIS_NONE)
+        CHECK(result->number == 0 && result->count == 0);
+    for (size_t i = result->number; i < sizeof result->text; i++)
+        CHECK(result->text[i] == 0x55);
+}
+
 static void group_count(hanneddois_regex *regex, struct result *result)
 {
     result->number = hanneddois_group_count(regex, 0);
@@ -266,6 +278,7 @@ static const struct row CALLS[] = {
     {"hanneddois_find_all", find_all, 0, 1},
     {"hanneddois_captures", captures, 0, 1},
     {"hanneddois_captures_all", captures_all, 0, 1},
+    {"hanneddois_replace_all", replace_all, 0, 1},
     {"hanneddois_group_count", group_count, 0, 0},
     {"hanneddois_group_name", group_name, 0, 0},
     {"hanneddois_matching_patterns", matching_patterns, 0, 1},

@@ -179,6 +179,48 @@ impl Handle {
         Ok(outcome(status, error)?.then_some(found))
     }
 
+    /// The haystack with the first matches replaced, as many as `limit`, or with all of them replaced if that is 0. It is
+    /// `None` without a match.
+    pub(crate) fn replace_all(
+        &mut self,
+        haystack: &[u8],
+        by: &[u8],
+        limit: usize,
+        flags: u32,
+    ) -> Result<Option<Vec<u8>>, Error> {
+        let mut room = haystack.len().saturating_add(haystack.len() / 8 + 64);
+        loop {
+            let mut output: Vec<u8> = with_room(room)?;
+            let (mut length, mut count) = (0, 0);
+            let mut error = sys::Error::default();
+            // SAFETY: as in `new`. The call writes the output, and reads none of it.
+            let status = unsafe {
+                sys::hanneddois_replace_all(
+                    &mut self.0,
+                    haystack.as_ptr(),
+                    haystack.len(),
+                    by.as_ptr(),
+                    by.len(),
+                    limit,
+                    flags,
+                    output.as_mut_ptr(),
+                    output.capacity(),
+                    &mut length,
+                    &mut count,
+                    &mut error,
+                )
+            };
+            if status == sys::OUTPUT_TOO_SMALL {
+                room = length;
+                continue;
+            }
+            let is_replaced = outcome(status, error)?;
+            // SAFETY: the call wrote this many bytes.
+            unsafe { output.set_len(length) };
+            return Ok(is_replaced.then_some(output));
+        }
+    }
+
     /// The names of the groups of a pattern, by their numbers.
     pub(crate) fn group_names(&mut self, pattern: usize) -> Vec<Option<String>> {
         // SAFETY: as in `new`.

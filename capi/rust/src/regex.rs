@@ -7,6 +7,7 @@ use crate::matches::{Match, Matches, Split};
 use crate::pool::{Pool, Searcher};
 use crate::replace::Replacer;
 use crate::set::SetMatches;
+use crate::sys;
 use std::borrow::Cow;
 use std::fmt;
 use std::str::FromStr;
@@ -194,18 +195,15 @@ impl Regex {
         limit: usize,
         mut by: R,
     ) -> Result<Cow<'h, [u8]>, Error> {
+        if let Some(text) = by.no_expansion() {
+            return self.replace_by(haystack, limit, &text, sys::LITERAL);
+        }
+        if let Some(template) = by.template() {
+            return self.replace_by(haystack, limit, &template, 0);
+        }
         let limit = if limit == 0 { usize::MAX } else { limit };
         let mut replaced = Vec::new();
         let mut last = 0;
-        if let Some(text) = by.no_expansion() {
-            for found in self.find_iter(haystack).take(limit) {
-                let found = found?;
-                replaced.extend_from_slice(&haystack[last..found.start()]);
-                replaced.extend_from_slice(&text);
-                last = found.end();
-            }
-            return Ok(joined(haystack, replaced, last));
-        }
         for found in self.captures_iter(haystack).take(limit) {
             let found = found?;
             let whole = found.get(0).expect("the whole match takes part");
@@ -214,6 +212,12 @@ impl Regex {
             last = whole.end();
         }
         Ok(joined(haystack, replaced, last))
+    }
+
+    /// The haystack with matches replaced by a template or by bytes as they are, by one call of the library.
+    fn replace_by<'h>(&self, haystack: &'h [u8], limit: usize, by: &[u8], flags: u32) -> Result<Cow<'h, [u8]>, Error> {
+        let replaced = self.searcher()?.handle.replace_all(haystack, by, limit, flags)?;
+        Ok(replaced.map_or(Cow::Borrowed(haystack), Cow::Owned))
     }
 
     /// What is between the matches.

@@ -17,6 +17,11 @@ pub trait Replacer {
         None
     }
 
+    /// The template that this replacement is, if it is one. Then one call of the library replaces all matches.
+    fn template(&mut self) -> Option<Vec<u8>> {
+        None
+    }
+
     /// This replacement, borrowed, so that it can be used again.
     fn by_ref(&mut self) -> ReplacerRef<'_, Self> {
         ReplacerRef(self)
@@ -39,6 +44,10 @@ impl<R: Replacer + ?Sized> Replacer for ReplacerRef<'_, R> {
 
     fn no_expansion(&mut self) -> Option<Vec<u8>> {
         self.0.no_expansion()
+    }
+
+    fn template(&mut self) -> Option<Vec<u8>> {
+        self.0.template()
     }
 }
 
@@ -68,6 +77,11 @@ macro_rules! template {
                 let bytes: &[u8] = self.as_ref();
                 (!bytes.contains(&b'$')).then(|| bytes.to_vec())
             }
+
+            fn template(&mut self) -> Option<Vec<u8>> {
+                let bytes: &[u8] = self.as_ref();
+                Some(bytes.to_vec())
+            }
         }
     )*};
 }
@@ -82,6 +96,10 @@ macro_rules! template_of_array {
 
             fn no_expansion(&mut self) -> Option<Vec<u8>> {
                 (&self[..]).no_expansion()
+            }
+
+            fn template(&mut self) -> Option<Vec<u8>> {
+                Some(self.to_vec())
             }
         }
     )*};

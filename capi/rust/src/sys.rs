@@ -13,6 +13,7 @@ pub(crate) const EMPTY_LOOP: u32 = 7;
 pub(crate) const TOO_LARGE: u32 = 8;
 pub(crate) const CAPACITY_TOO_SMALL: u32 = 9;
 pub(crate) const HAYSTACK_NOT_UTF8: u32 = 12;
+pub(crate) const OUTPUT_TOO_SMALL: u32 = 13;
 
 pub(crate) const CASE_INSENSITIVE: u32 = 1 << 0;
 pub(crate) const MULTI_LINE: u32 = 1 << 1;
@@ -28,6 +29,8 @@ pub(crate) const MATCHING_PATTERNS: u32 = 1 << 10;
 pub(crate) const RAISE_CAPACITY: u32 = 1 << 11;
 pub(crate) const NO_BYTE_CLASSES: u32 = 1 << 12;
 pub(crate) const SHRINK: u32 = 1 << 13;
+
+pub(crate) const LITERAL: u32 = 1 << 0;
 
 /// The offsets of a group that took no part.
 pub(crate) const NO_OFFSET: usize = usize::MAX;
@@ -130,6 +133,20 @@ extern "C" {
         found: *mut Match,
         slots: *mut usize,
         slots_length: usize,
+        error: *mut Error,
+    ) -> u32;
+    pub(crate) fn hanneddois_replace_all(
+        regex: *mut Regex,
+        haystack: *const u8,
+        haystack_length: usize,
+        replacement: *const u8,
+        replacement_length: usize,
+        limit: usize,
+        flags: u32,
+        output: *mut u8,
+        output_length: usize,
+        length: *mut usize,
+        count: *mut usize,
         error: *mut Error,
     ) -> u32;
     pub(crate) fn hanneddois_error_text(error: *const Error, text: *mut u8, text_length: usize) -> usize;

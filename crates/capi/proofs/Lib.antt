@@ -1,3 +1,4 @@
 mod CompiledLemmas
 mod GroupLemmas
+mod ReplaceLemmas
 mod TextLemmas

@@ -3,3 +3,4 @@ pub mod Texts
 pub mod Compiled
 pub mod Failures
 pub mod Groups
+pub mod Replacing

@@ -8,14 +8,17 @@ ghost use Rattle.group_finder.specs.Slots.{no_offset};
 ghost use Rattle.captures.specs.Captures.{AreCaptured, AreFirstCaptured, HasCaptures};
 ghost use Rattle.meta_regex.specs.Regexes.{IsMadeOf as IsEngineMadeOf};
 ghost use Rattle.captures.specs.Groups.{AreGroupsOf};
+ghost use Rattle.captures.specs.Replacing.{IsReplaced, IsReplacementFor, Said};
 ghost use Rattle.capi.specs.Compiled.{IsMadeOf, IsNewError, config_by};
 ghost use Rattle.capi.specs.Options.{options_of};
 ghost use Rattle.capi.specs.Groups.{IsGroupCount, IsGroupName, IsGroupSearchError};
+ghost use Rattle.capi.specs.Replacing.{said_by};
 
 use crate::failure::NewError;
 use crate::groups::{copied_groups, prepared_groups, write_name};
 use crate::options::Options;
-use captures::{CapturesError, Groups};
+use crate::replacing::replacement_of;
+use captures::{CapturesError, Groups, Replacement};
 use group_finder::clear;
 use meta_regex::{Cache, FoundMatch, Regex, SearchError};
 use std::alloc::{AllocError, Global};
@@ -291,6 +294,44 @@ impl Compiled {
             rows,
             slots,
             width,
+        )
+    }
+
+    /// A replacement for the patterns of the regex: bytes that are written as they are, or a template.
+    pub(crate) fn replacement(
+        &self,
+        alloc: Global,
+        replacement: &[u8],
+        is_literal: bool,
+    ) -> Result<Replacement, AllocError>
+        ensures { IfOk result (IsReplacementFor (config_by self.now) self.now.texts (said_by (config_by self.now) is_literal replacement.now)) }
+    {
+        replacement_of(alloc, &self.groups, replacement, is_literal)
+    }
+
+    /// Appends to an output the haystack with its first matches replaced, and returns how many were: as many as `limit` at most, or all if that
+    /// is 0. If the call fails, the output is as it was.
+    pub(crate) fn append_replaced(
+        &mut self,
+        alloc: Global,
+        haystack: &[u8],
+        replacement: &Replacement,
+        limit: usize,
+        output: &mut Vec<u8>,
+    ) -> Result<usize, CapturesError>
+        ensures same { self.new ≡ self.old }
+        ensures replaced { (said : Said) → IsReplacementFor (config_by self.old) self.old.texts said replacement.now → IfOk result
+            (IsReplaced (config_by self.old) self.old.texts haystack.now said limit output.old.items output.new.items) }
+        ensures refused { IfErr result (IsGroupSearchError self.old haystack.now) }
+    {
+        self.groups.replacen(
+            alloc,
+            &self.regex,
+            &mut self.cache,
+            haystack,
+            replacement,
+            limit,
+            output,
         )
     }
 

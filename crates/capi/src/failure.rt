@@ -45,6 +45,9 @@ pub(crate) const UNSUPPORTED: u32 = 10;
 /// The haystack isn't UTF-8, and the regex is made for UTF-8.
 pub(crate) const HAYSTACK_NOT_UTF8: u32 = 12;
 
+/// The output of a call is longer than the room for it.
+pub(crate) const OUTPUT_TOO_SMALL: u32 = 13;
+
 /// An error in numbers. Fields that don't apply to its status are 0.
 #[repr(C)]
 #[derive(Clone, Copy, Drop)]

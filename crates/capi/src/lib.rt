@@ -10,6 +10,7 @@ mod compiled;
 mod failure;
 mod groups;
 mod options;
+mod replacing;
 mod texts;
 mod words;
 

@@ -4,7 +4,7 @@ ghost use Rattle.meta_regex.specs.Regexes.{overlaid};
 
 use crate::failure::{
     BAD_ARGUMENT, CAPACITY_TOO_SMALL, EMPTY_LOOP, Failure, HAYSTACK_NOT_UTF8, NESTS_TOO_DEEP,
-    NO_MEMORY, NOT_UTF8, SYNTAX_ERROR, TOO_LARGE, UNSUPPORTED, kind_of,
+    NO_MEMORY, NOT_UTF8, OUTPUT_TOO_SMALL, SYNTAX_ERROR, TOO_LARGE, UNSUPPORTED, kind_of,
 };
 
 /// The message for what is wrong with a pattern.
@@ -29,6 +29,7 @@ fn words_of(failure: &Failure) -> &'static str {
         CAPACITY_TOO_SMALL => "a cache may take fewer bytes than it needs",
         UNSUPPORTED => "words by characters need their automata to give up at bytes above 0x7F",
         HAYSTACK_NOT_UTF8 => "the haystack is no UTF-8",
+        OUTPUT_TOO_SMALL => "the output is longer than the room for it",
         _ => "unknown status",
     }
 }

@@ -1,5 +1,5 @@
 -- What the results of the calls mean, in terms of the patterns and options from which a handle's regex is made.
-use Rattle.std.specs.Prelude.{◌≡◌, ◌≢◌, ◌<◌, ℕ, List, true, false, Option, Some, None, length}
+use Rattle.std.specs.Prelude.{◌≡◌, ◌≢◌, ◌<◌, ◌≤◌, ◌||◌, ℕ, Bool, List, true, false, Option, Some, None, length, nat_eq, nat_lt}
 use Rattle.meta_regex.specs.Regexes.{IsReported, HasFoundStart, HasFoundSpan, AreAll, AreFirstOfAll, AreMarked}
 use Rattle.meta_regex.specs.Regexes.{IsSearchError, IsMatchingPatternsError}
 use Rattle.meta_regex.specs.Lists.{AreListed, AreFirstListed}
@@ -10,6 +10,7 @@ use Rattle.captures.specs.declared.errors.CapturesError.{CapturesError}
 use Rattle.capi.specs.Compiled.{Regexed, config_by, IsCallError}
 use Rattle.capi.specs.Failures.{failure_of_captures, failure_of_new, failure_of_search, without_cause}
 use Rattle.capi.specs.Groups.{IsGroupSearchError}
+use Rattle.capi.specs.Replacing.{IsReplacedInto, said_by}
 use Rattle.capi.specs.declared.failure.Failure.{Failure}
 use Rattle.capi.specs.declared.failure.NewError.{NewError}
 use Rattle.capi.specs.declared.options.Options.{Options}
@@ -27,6 +28,14 @@ FailsSearch v h f = 1 < f.status → (e : SearchError) × (f ≡ failure_of_sear
 -- A status above 1 says why the search of the haystack for matches with their groups failed.
 abbrev pub FailsCaptures : Regexed → List ℕ → Failure → Type 0
 FailsCaptures v h f = 1 < f.status → (e : CapturesError) × (f ≡ failure_of_captures e) × IsGroupSearchError v h e
+
+-- The statuses of a call that has replaced what there is to replace.
+abbrev pub is_replaced : ℕ → Bool
+is_replaced status = nat_lt status 2 || nat_eq status 13
+
+-- Any other status says why the search of the haystack for what to replace failed.
+abbrev pub FailsReplace : Regexed → List ℕ → Failure → Type 0
+FailsReplace v h f = is_replaced f.status ≡ false → (e : CapturesError) × (f ≡ failure_of_captures e) × IsGroupSearchError v h e
 
 -- A status above 1 says why the search for the patterns that match failed.
 abbrev pub FailsMatchingPatterns : Regexed → List ℕ → List ℕ → Failure → Type 0
@@ -70,6 +79,16 @@ pub record AnswersCapturesAll (v : Regexed) (h : List ℕ) (width n : ℕ) (old 
   pub captured : status < 2 → AreCaptured (config_by v) v.texts h width slots_old slots
   pub first : 1 < status → AreFirstOfAll (config_by v) v.texts h n old new
   pub begun : 1 < status → AreFirstCaptured (config_by v) v.texts h width n slots_old slots
+
+-- `n` matches are replaced, and the output has `len` bytes, of which the first are in the room. A status of 0 says that a match is replaced and
+-- the whole output is there, one of 1 that there is no match and the whole haystack is there, and one of 13 that there is less room.
+pub record AnswersReplace (v : Regexed) (h replacement : List ℕ) (limit flags : ℕ) (old new : List ℕ) (len n status : ℕ) : Type 0 where
+  pub replaced : is_replaced status ≡ true → IsReplacedInto (config_by v) v.texts h (said_by (config_by v) (nat_eq flags 1) replacement) limit
+      old new len n
+  pub any : status ≡ 0 → 0 < n
+  pub none : status ≡ 1 → n ≡ 0
+  pub whole : status < 2 → len ≤ length old
+  pub part : status ≡ 13 → length old < len
 
 -- `n` patterns match, and these are marked.
 pub record AnswersWhichMatch (v : Regexed) (h : List ℕ) (n : ℕ) (marks : List ℕ) (status : ℕ) : Type 0 where

@@ -9,13 +9,14 @@ mod apart;
 mod handle;
 
 ghost use Rattle.std.specs.Prelude.{◌≡◌, ◌≢◌, ◌⊎◌, ◌<◌, ◌≤◌, ◌*◌, Some, None, IfSome, IfOk, IfErr, false, length, nat_eq, replicate};
+ghost use Rattle.std.specs.Prelude.{if◌then◌else◌, nat_lt, true};
 ghost use Rattle.group_finder.specs.Slots.{no_offset};
 ghost use Rattle.capi.specs.Compiled.{IsMadeOf, IsCallError, are_arguments};
 ghost use Rattle.capi.specs.Failures.{plain};
 ghost use Rattle.capi.specs.Groups.{IsGroupCount, IsGroupName};
 ghost use Rattle.capi.specs.Texts.{cut};
 ghost use Rattle.hanneddois.specs.Answers.{AnswersIsMatch, AnswersFind, AnswersCaptures, AnswersAll, AnswersCapturesAll, AnswersWhichMatch};
-ghost use Rattle.hanneddois.specs.Answers.{pattern_count_of};
+ghost use Rattle.hanneddois.specs.Answers.{AnswersReplace, FailsReplace, is_replaced, pattern_count_of};
 ghost use Rattle.hanneddois.specs.Answers.{RejectsNew, FailsSearch, FailsCaptures, FailsMatchingPatterns};
 
 use capi::{
@@ -36,6 +37,12 @@ const BAD_ARGUMENT: u32 = 2;
 
 /// Memory ran out.
 const NO_MEMORY: u32 = 3;
+
+/// There is no room for the whole output.
+const OUTPUT_TOO_SMALL: u32 = 13;
+
+/// The flag of a replacement whose bytes are written as they are.
+const LITERAL: u32 = 1;
 
 const VERSION: u32 = 300;
 
@@ -454,6 +461,65 @@ pub extern "C" fn hanneddois_captures_all(
     match reported {
         Ok(()) => end(if total == 0 { NONE } else { OK }, error),
         Err(why) => refuse(Failure::of_captures(&why), error),
+    }
+}
+
+/// The status of a call that has replaced so many matches, with an output of so many bytes for this room.
+fn replaced_status(length: usize, room: usize, count: usize) -> u32
+    ensures { result ≡ (if nat_lt room length then 13 else if nat_eq count 0 then 1 else 0) }
+{
+    if room < length {
+        return OUTPUT_TOO_SMALL;
+    }
+    if count == 0 { NONE } else { OK }
+}
+
+/// Replaces the first matches of the haystack, as many as `limit` at most, or all if that is 0. The replacement is a template, or bytes that are
+/// written as they are if `flags` is 1. The first bytes of the output are written, as many as there is room for.
+///
+/// The status is 0 if a match is replaced, and 1 if there is none. It is 13 if there is no room for the whole output. The errors are those of
+/// [`hanneddois_captures`], and 2 also if `flags` is neither 0 nor 1.
+#[unsafe(no_mangle)]
+pub extern "C" fn hanneddois_replace_all(
+    alloc: Global,
+    regex: &mut Handle,
+    haystack: &[u8],
+    replacement: &[u8],
+    limit: usize,
+    flags: u32,
+    output: &mut [u8],
+    length: &mut usize,
+    count: &mut usize,
+    error: &mut Failure,
+) -> u32
+    ensures reported { error.new.status ≡ result }
+    ensures same { regex.new.value ≡ regex.old.value }
+    ensures plain { is_replaced result ≡ true → error.new ≡ plain result }
+    ensures kept { is_replaced result ≡ false → (length.new ≡ 0) × (count.new ≡ 0) × (output.new ≡ output.old) }
+    ensures empty { regex.old.value ≡ None → error.new ≡ plain 2 }
+    ensures flags { 1 < flags → error.new ≡ plain 2 }
+    ensures answer { IfSome regex.old.value (λ v. AnswersReplace v haystack.now replacement.now limit flags output.old output.new length.new
+        count.new result) }
+    ensures refused { flags < 2 → IfSome regex.old.value (λ v. FailsReplace v haystack.now error.new) }
+{
+    *length = 0;
+    *count = 0;
+    if flags > LITERAL {
+        return end(BAD_ARGUMENT, error);
+    }
+    let Some(mut inside) = regex.take(alloc) else {
+        return end(BAD_ARGUMENT, error);
+    };
+    let is_literal = flags == LITERAL;
+    let reported = inside.replace_all(alloc, haystack, replacement, is_literal, limit, output);
+    regex.put(alloc, inside);
+    match reported {
+        Ok((total, replaced)) => {
+            *length = total;
+            *count = replaced;
+            end(replaced_status(total, output.len(), replaced), error)
+        }
+        Err(cause) => refuse(Failure::of_captures(&cause), error),
     }
 }
 
