@@ -50,27 +50,30 @@ HEAD = re.compile(r"^(?:abbrev |unfoldable )?(?:pub )?(?:abbrev |unfoldable )?(?
 
 def flat_lines(path):
     """Returns the lines of a file; what is within a module of parameters or a mutual block stands as if it were alone."""
-    opened = []  # the indents of the blocks that are open
+    opened = []  # of each block that is open its indent, and that of what is in it
     waiting = None  # the indent of a module whose parameters go on in the next line
     with open(path, encoding="utf-8") as file:
         for line in file.read().split("\n"):
             indent = len(line) - len(line.lstrip())
             if waiting is not None:
                 if line.endswith(" where") or line.strip() == "where":
-                    opened.append(waiting)
+                    opened.append([waiting, None])
                     waiting = None
                 yield ""
                 continue
-            while line.strip() and opened and indent <= opened[-1]:
+            while line.strip() and opened and indent <= opened[-1][0]:
                 opened.pop()
-            if re.match(r"\s*(module _ .*where|(abbrev |unfoldable )?mutual)$", line) and indent == 2 * len(opened):
-                opened.append(indent)
+            if line.strip() and opened and opened[-1][1] is None:
+                opened[-1][1] = indent
+            base = opened[-1][1] or 0 if opened else 0
+            if re.match(r"\s*(module _ .*where|(abbrev |unfoldable )?mutual)$", line) and indent == base:
+                opened.append([indent, None])
                 yield ""
-            elif re.match(r"\s*module _ ", line) and indent == 2 * len(opened):
+            elif re.match(r"\s*module _ ", line) and indent == base:
                 waiting = indent
                 yield ""
             else:
-                yield line[2 * len(opened) :] if line.startswith("  " * len(opened)) else line
+                yield line[base:] if line.startswith(" " * base) else line
 
 
 @functools.lru_cache(None)

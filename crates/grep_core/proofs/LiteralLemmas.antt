@@ -17,8 +17,6 @@ use Rattle.grep_core.specs.Searchers.{line_settings}
 use Rattle.grep_core.proofs.LineCutLemmas.{lines_between}
 use Rattle.grep_core.proofs.CandidateLemmas.{EndNotBefore, have_none_of, line_starts_at, nothing_between}
 
--- ---- of which tree
-
 -- ---- where no span ends
 not_before : (x : Tree) (block : List ℕ) (at k : ℕ) → EndsFrom x block at k → EndNotBefore (x ∷ []) block at k
 not_before x block at k ends zero i j s =

@@ -31,7 +31,7 @@ use Rattle.lazy_dfa.proofs.Courses.CourseLemmas.{unmatched}
 use Rattle.lazy_dfa.proofs.CacheChanges.IsCacheLemmas.{row_is_plain, le_of}
 use Rattle.lazy_dfa.proofs.CacheChanges.LinkedLemmas.{AreBytes, row_grows, grows_refl, grows_trans, grew_grows, has_cleared, cleared_grows}
 use Rattle.lazy_dfa.proofs.CacheChanges.LinkedLemmas.{moved_refl}
-use Rattle.lazy_dfa.proofs.CacheChanges.LinkedLemmas.{moved_trans, moved_same, names_moved, noted_moved, moved_starts, grows_moved}
+use Rattle.lazy_dfa.proofs.CacheChanges.LinkedLemmas.{moved_trans, moved_same}
 use Rattle.lazy_dfa.proofs.CacheChanges.LinkedLemmas.{id_moved}
 use Rattle.lazy_dfa.proofs.CacheChanges.LinkedLemmas.{linked_moved, id_grows, linked_grows, linked_none, linked_less, id_split}
 use Rattle.lazy_dfa.proofs.CacheChanges.LinkedLemmas.{linked_split}
@@ -82,14 +82,6 @@ module _ (d : Dfa) (h : List ℕ) where
     inserted = omega arith;
     changes = λ s named. unchanged p.cache 0 refl;
   }
-    where
-      grows_on : CacheGrows d a.cache v → CacheGrows d a.cache w
-      grows_on f = record {
-        names = λ i s n. names_moved d v w e i s (f.names i s n);
-        known = λ i u r unit n. noted_moved d v w e i u ∙ f.known i u r unit n;
-        starts = λ i n. ap (λ (c : List ℕ). get_or c i 0) (moved_starts d v w e) ∙ f.starts i n;
-        clears = (grows_moved d v w e).clears ∙ f.clears;
-      }
 
 -- ---- further on
 
