@@ -106,7 +106,7 @@ pub room_or_all : (n k room rest : ℕ) → room ≡ min n k → room + rest ≡
 room_or_all n k room rest least whole =
     ⊎_elim (λ (below : n < k). inl (omega (arith, least, whole))) (λ (above : k ≤ n). inr (omega (arith, least, whole))) (cases_lt n k)
 
-seen : (o : Option Trace) (t : Trace) → outcome o ≡ Some (t.end, last_write t.writes) →
+pub seen : (o : Option Trace) (t : Trace) → outcome o ≡ Some (t.end, last_write t.writes) →
     (u : Trace) × (o ≡ Some u) × (u.end ≡ t.end) × (last_write u.writes ≡ last_write t.writes)
 unfolding outcome
 seen None t e = absurd (none-some (t.end, last_write t.writes) e)
@@ -148,7 +148,7 @@ alike_slots i u t n ends writes = along _ _ 0 n each
     each (suc (suc k)) =
         ap offset_or_none (slot_after_ends (one u) k ∙ ap (λ (f : ℕ → Option ℕ). f (k + 2)) writes ∙ sym (slot_after_ends (one t) k))
 
-told : (a : Re) (h : List ℕ) (i : ℕ) (t : Trace) → attempt h a accept i ≡ Some t →
+pub told : (a : Re) (h : List ℕ) (i : ℕ) (t : Trace) → attempt h a accept i ≡ Some t →
     outcome (attempt h a accept i) ≡ Some (t.end, last_write t.writes)
 unfolding outcome
 told a h i t e = ap outcome e

@@ -2,4 +2,8 @@ pub mod SlotLemmas
 pub mod WriteLemmas
 pub mod GroupLemmas
 pub mod CompileLemmas
+pub mod ReadsLemmas
+pub mod StepLemmas
+pub mod LayoutLemmas
+pub mod LaidLemmas
 pub mod ForCallers

@@ -3,3 +3,4 @@ pub mod Patterns
 pub mod Engines
 pub mod Errors
 pub mod Groups
+pub mod Layouts

@@ -7,10 +7,13 @@ ghost use Rattle.regex_tagged.specs.Valid.{IsFor};
 ghost use Rattle.regex_vm.specs.Found.{first_match, span, group_cells};
 ghost use Rattle.group_finder.specs.Slots.{slots_of};
 ghost use Rattle.group_finder.specs.Engines.{HasRoomFor, IsAutomatonOf, automaton_bytes, counted, offsets_of, pikevm_bytes};
+ghost use Rattle.group_finder.specs.Layouts.{IsLaidBy, layout_bytes};
 ghost use Rattle.group_finder.specs.Errors.{IsNewError};
 
 use crate::errors::{NewError, allowed, cause_of};
+use crate::layout::layout_of;
 use crate::slots::{clear, decode, write_ends, write_start};
+use crate::steps::{Step, slots_along};
 use regex_compile::compile;
 use regex_dfa::Dfa;
 use regex_nfa::{BuildError, Nfa};
@@ -21,13 +24,17 @@ use std::alloc::{AllocError, Global};
 
 /// Finds the groups of a match of one pattern. Its tables grow while it searches.
 ///
-/// The toolchain's tagged automaton searches. It declines spans above 4 GiB and very long ones, and it gives up for good if its tables had to
+/// If the pattern has a layout, the slots of a match whose span is known need no search: each group starts and ends at an offset that a
+/// count of bytes, a run of bytes of a set or the end of the match gives.
+///
+/// Otherwise the toolchain's tagged automaton searches. It declines spans above 4 GiB and very long ones, and it gives up for good if its tables had to
 /// be dropped several times before they paid off. Then the toolchain's PikeVM searches, which is made by the first search that needs it.
 #[derive(Drop)]
 pub struct GroupFinder {
     pub(crate) dfa: Dfa,
     tagged: Tagged,
     pikevm: Option<PikeVm>,
+    pub(crate) layout: Option<Vec<Step>>,
     ghost tagged_runs: { IsFor tagged dfa },
     ghost pikevm_runs: { IfSome pikevm (HasRoomFor dfa.nfa) } by { Prim.hlevel props },
 }
@@ -154,9 +161,15 @@ fn find_slots(
     Ok(write_ends(found, ends))
 }
 
-/// The automaton of a pattern.
-fn dfa_of(alloc: Global, text: &str, config: &Config, size_limit: usize) -> Result<Dfa, NewError>
-    ensures made { IfOk result (λ d. IsAutomatonOf config.now text.now d.nfa) }
+/// The automaton of a pattern, and its layout if it has one.
+fn dfa_of(
+    alloc: Global,
+    text: &str,
+    config: &Config,
+    size_limit: usize,
+) -> Result<(Dfa, Option<Vec<Step>>), NewError>
+    ensures made { IfOk result (λ d. IsAutomatonOf config.now text.now d.0.nfa) }
+    ensures laid { IfOk result (λ d. IfSome d.1 (λ steps. IsLaidBy config.now text.now steps.items)) }
     ensures refused { IfErr result (IsNewError config.now text.now size_limit) }
 {
     let Parsed { hir, names } = match regex_syntax::parse(alloc, text, config) {
@@ -173,8 +186,11 @@ fn dfa_of(alloc: Global, text: &str, config: &Config, size_limit: usize) -> Resu
         Err(regex_compile::Error::TooBig) => return Err(NewError::TooLarge(most)),
         Err(regex_compile::Error::Malformed) => unreachable!(),
     };
+    let Ok(layout) = layout_of(alloc, &hir) else {
+        return Err(NewError::NoMemory);
+    };
     match Dfa::new(alloc, nfa) {
-        Ok(dfa) => Ok(dfa),
+        Ok(dfa) => Ok((dfa, layout)),
         Err(BuildError::OutOfMemory) => Err(NewError::NoMemory),
         Err(BuildError::Malformed) => unreachable!(),
     }
@@ -191,6 +207,16 @@ fn bytes_of(nfa: &Nfa, pikevm: bool) -> usize
     }
     let each = 16 * (nfa.slot_count as usize - 2) + 60;
     usage.saturating_add(states.saturating_mul(each))
+}
+
+/// The bytes of a layout, if there is one.
+fn layout_bytes_of(layout: &Option<Vec<Step>>) -> usize
+    ensures { result ≡ counted (layout_bytes layout.now) }
+{
+    match layout {
+        Some(steps) => steps.len().saturating_mul(264),
+        None => 0,
+    }
 }
 
 impl GroupFinder {
@@ -210,8 +236,8 @@ impl GroupFinder {
         ensures made { IfOk result (IsFinderOf config.now text.now) }
         ensures refused { IfErr result (IsNewError config.now text.now size_limit) }
     {
-        let dfa = match dfa_of(alloc, text, config, size_limit) {
-            Ok(dfa) => dfa,
+        let (dfa, layout) = match dfa_of(alloc, text, config, size_limit) {
+            Ok(made) => made,
             Err(error) => return Err(error),
         };
         let tagged = match Tagged::new(alloc, &dfa) {
@@ -222,18 +248,19 @@ impl GroupFinder {
             dfa,
             tagged,
             pikevm: None,
+            layout,
         })
     }
 
     /// The bytes that the finder takes, as far as they are counted. The automaton of the pattern takes 16 for each state and 8 for each
-    /// transition. The PikeVM, if a search needed it, takes for each state 60, and 16 for each slot after the first two. The greatest
-    /// number stands for any number above it.
+    /// transition. The PikeVM, if a search needed it, takes for each state 60, and 16 for each slot after the first two. A layout takes 264
+    /// for each step. The greatest number stands for any number above it.
     ///
     /// The tables of the toolchain's tagged automaton aren't counted, since it doesn't report them. It drops them at some 8 MiB.
     pub fn memory_usage(&self) -> usize
         ensures { result ≡ counted (finder_bytes self.now) }
     {
-        bytes_of(&self.dfa.nfa, self.pikevm.is_some())
+        bytes_of(&self.dfa.nfa, self.pikevm.is_some()).saturating_add(layout_bytes_of(&self.layout))
     }
 
     /// Finds the match that the pattern has from an offset, and returns its end. `stop` is an offset at or after this end: the end itself, if
@@ -257,6 +284,7 @@ impl GroupFinder {
             attempt haystack.now a accept start ≡ None → stop ≡ length haystack.now → IfOk result (λ o. o ≡ None) }
         ensures cleared { IfOk result (λ o. IfNone o (slots.new ≡ replicate (length slots.old) no_offset)) }
         ensures refused { IfErr result (λ _. slots.new ≡ replicate (length slots.old) no_offset) }
+        ensures own { (config : TextConfig) (text : List ℕ) → IsFinderOf config text self.old → IsFinderOf config text self.new }
         ensures same { automaton_of self.new ≡ automaton_of self.old }
     {
         see_bytes(haystack);
@@ -279,6 +307,36 @@ impl GroupFinder {
                 clear(slots);
                 Err(error)
             }
+        }
+    }
+
+    /// Writes the slots of the match that the pattern has from an offset up to its end, as [`groups_at`](GroupFinder::groups_at) does. `end`
+    /// is the end of this match.
+    #[inline]
+    pub fn groups_between(
+        &mut self,
+        alloc: Global,
+        haystack: &[u8],
+        start: usize,
+        end: usize,
+        slots: &mut [usize],
+    ) -> Result<(), AllocError>
+        requires ordered { (start ≤ end) × (end ≤ length haystack.now) }
+        ensures written { (config : TextConfig) (text : List ℕ) (a : Re) → IsFinderOf config text self.old → IsParsedAs config text a →
+            (t : Trace) → attempt haystack.now a accept start ≡ Some t → t.end ≡ end →
+            IfOk result (λ _. slots.new ≡ slots_of (record { start = start; trace = t }) (length slots.old)) }
+        ensures refused { IfErr result (λ _. slots.new ≡ replicate (length slots.old) no_offset) }
+        ensures own { (config : TextConfig) (text : List ℕ) → IsFinderOf config text self.old → IsFinderOf config text self.new }
+        ensures same { automaton_of self.new ≡ automaton_of self.old }
+    {
+        see_bytes(haystack);
+        if let Some(steps) = &self.layout {
+            slots_along(steps, haystack, start, end, slots);
+            return Ok(());
+        }
+        match self.groups_at(alloc, haystack, start, end, slots) {
+            Ok(_) => Ok(()),
+            Err(error) => Err(error),
         }
     }
 }

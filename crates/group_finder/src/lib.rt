@@ -6,8 +6,11 @@
 
 mod errors;
 mod finder;
+mod layout;
+mod lengths;
 mod names;
 mod slots;
+mod steps;
 
 pub use errors::NewError;
 pub use finder::GroupFinder;

@@ -3,6 +3,7 @@ use Rattle.std.proofs.lemmas.List.{length-map}
 use Rattle.group_finder.specs.Engines.{IsAutomatonOf}
 use Rattle.group_finder.proofs.CompileLemmas.{few_bytes, may_compile, not_both}
 use Rattle.group_finder.proofs.GroupLemmas.{automaton_made, pattern_read}
+use Rattle.group_finder.proofs.LaidLemmas.{all_laid}
 use Rattle.group_finder.proofs.finder.dfa_of.Goals as goal
 
 pub returns-in-Err-clause-refused : goal.returns-in-Err-clause-refused
@@ -36,3 +37,7 @@ returns-in-Ok-new-clause-made c =
     (automaton_made c.args.config.now c.args.text.now c.in-Ok.parsed.hir _ c.in-Ok-compile.nfa c.in-Ok.ensures.ok
     c.in-Ok-compile.ensures.matches
     (omega (arith, c.in-Ok-compile.ensures.slots, c.len.ensures, c.in-Ok-try_from.ensures, length-map c.in-Ok.parsed.names.items (option_map string_bytes))))
+
+pub returns-in-Ok-new-clause-laid : goal.returns-in-Ok-new-clause-laid
+returns-in-Ok-new-clause-laid c =
+    all_laid c.args.config.now c.args.text.now c.in-Ok.parsed.hir _ c.in-Ok-layout_of.layout c.in-Ok.ensures.ok c.in-Ok-layout_of.ensures

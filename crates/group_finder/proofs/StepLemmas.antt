@@ -1,0 +1,73 @@
+-- What steps write along a match.
+use Rattle.std.proofs.Common.{◌≡◌, ℕ, zero, suc, ◌+◌, ◌-◌, ◌<◌, ◌≤◌, Bool, true, false, List, [], ◌∷◌, length, drop, replicate, get_or, slice_index, slice_set, refl, sym, ap, ap₂, ◌∙◌, ⊎_elim, arith, drop-cons}
+use Rattle.std.proofs.lemmas.Bool.{cond-true, cond-false, cases_lt}
+use Rattle.search_core.specs.ByteSets.{has}
+use Rattle.group_finder.specs.declared.steps.Step.{Step}
+use Rattle.group_finder.specs.declared.steps.Step.TheVariants.{Skip, Run, Rest, Save}
+use Rattle.group_finder.specs.Slots.{no_offset}
+use Rattle.group_finder.specs.Layouts.{after_step, run_end, slots_laid, step_writes, steps_write, written}
+
+-- ---- a run of bytes
+pub run_none : (s : List Bool) (h : List ℕ) (n at : ℕ) → n ≡ 0 → run_end s h n at ≡ at
+unfolding run_end
+run_none s h n at e = ap (λ m. run_end s h m at) e
+
+pub run_stops : (s : List Bool) (h : List ℕ) (n m at : ℕ) → n ≡ suc m → has s (slice_index h at) ≡ false → run_end s h n at ≡ at
+unfolding run_end
+run_stops s h n m at e out = ap (λ x. run_end s h x at) e ∙ cond-false _ _ _ out
+
+pub run_goes : (s : List Bool) (h : List ℕ) (n m at : ℕ) → n ≡ suc m → has s (slice_index h at) ≡ true →
+    run_end s h n at ≡ run_end s h m (at + 1)
+unfolding run_end
+run_goes s h n m at e inside = ap (λ x. run_end s h x at) e ∙ cond-true _ _ _ inside
+
+-- a run ends at the first byte that isn't in the set
+pub run_lands : (s : List Bool) (h : List ℕ) (gap i at end : ℕ) → i + gap ≡ at → at ≤ end →
+    ((x : ℕ) → i ≤ x → x < at → has s (slice_index h x) ≡ true) → (at < end → has s (slice_index h at) ≡ false) →
+    run_end s h (end - i) i ≡ at
+run_lands s h zero i at end here within inside out =
+    let same : i ≡ at = omega (arith, here) in
+    ⊎_elim
+    (λ (before : at < end).
+    run_stops s h (end - i) (end - (i + 1)) i (omega (arith, same, before)) (ap (λ x. has s (slice_index h x)) same ∙ out before) ∙ same)
+    (λ (after : end ≤ at). run_none s h (end - i) i (omega (arith, same, after)) ∙ same)
+    (cases_lt at end)
+run_lands s h (suc gap) i at end here within inside out =
+    run_goes s h (end - i) (end - (i + 1)) i (omega (arith, here, within)) (inside i (omega arith) (omega (arith, here)))
+    ∙ run_lands s h gap (i + 1) at end (omega (arith, here)) within (λ x from below. inside x (omega (arith, from)) below) out
+
+-- ---- steps one by one
+after_one : (s : Step) (at : ℕ) (ws : List (ℕ × ℕ)) (slots : List ℕ) →
+    written (step_writes s at ws) slots ≡ written ws (written (step_writes s at []) slots)
+unfolding written
+after_one (Skip n) at ws slots = refl
+after_one (Run set) at ws slots = refl
+after_one (Rest n) at ws slots = refl
+after_one (Save slot) at ws slots = refl
+
+pub one_written : (h : List ℕ) (end : ℕ) (steps : List Step) (i at next : ℕ) (s : Step) (old new all : List ℕ) → i < length steps →
+    s ≡ get_or steps i s → next ≡ after_step h end s at → new ≡ written (step_writes s at []) old →
+    written (steps_write h end (drop i steps) at) old ≡ all → written (steps_write h end (drop (i + 1) steps) next) new ≡ all
+unfolding steps_write
+one_written h end steps i at next s old new all inside is moved wrote so_far =
+    let more : suc i ≡ i + 1 = omega arith in
+    let parts : drop i steps ≡ s ∷ drop (i + 1) steps =
+    drop-cons steps i s inside ∙ ap₂ ◌∷◌ (sym is) (ap (λ n. drop n steps) more) in
+    ap₂ (λ (a : ℕ) (xs : List ℕ). written (steps_write h end (drop (i + 1) steps) a) xs) moved wrote
+    ∙ sym (after_one s at (steps_write h end (drop (i + 1) steps) (after_step h end s at)) old)
+    ∙ ap (λ (ss : List Step). written (steps_write h end ss at) old) (sym parts)
+    ∙ so_far
+
+pub none_left : (h : List ℕ) (end : ℕ) (steps : List Step) (at : ℕ) (slots : List ℕ) → steps ≡ [] →
+    written (steps_write h end steps at) slots ≡ slots
+unfolding steps_write written
+none_left h end steps at slots none = ap (λ (ss : List Step). written (steps_write h end ss at) slots) none
+
+-- what is left by clearing, the steps, and the span
+pub slots_put : (h : List ℕ) (steps : List Step) (start end n : ℕ) (cleared walked started ended : List ℕ) → cleared ≡ replicate n no_offset →
+    walked ≡ written (steps_write h end steps start) cleared → started ≡ slice_set walked 0 start → ended ≡ slice_set started 1 end →
+    ended ≡ slots_laid h steps start end n
+unfolding slots_laid
+slots_put h steps start end n cleared walked started ended none walk first second =
+    second ∙ ap (λ (xs : List ℕ). slice_set xs 1 end) (first ∙ ap (λ (xs : List ℕ). slice_set xs 0 start)
+    (walk ∙ ap (written (steps_write h end steps start)) none))

@@ -1,0 +1,104 @@
+//! Steps along a match whose span is known, which write the offsets of its groups.
+ghost use Rattle.std.specs.Prelude.{◌≡◌, ◌≤◌, ◌-◌, [], length, slice_set};
+ghost use Rattle.group_finder.specs.Layouts.{after_step, run_end, slots_laid, step_writes, steps_write, written};
+
+use crate::slots::clear;
+use search_core::ByteSet;
+
+/// A step along a match.
+#[derive(Clone, Copy, Drop)]
+pub(crate) enum Step {
+    /// Skips so many bytes.
+    Skip(usize),
+    /// Skips the bytes up to the first that isn't in the set.
+    Run(ByteSet),
+    /// Goes to the offset so many bytes before the end of the match.
+    Rest(usize),
+    /// Writes the offset into the slot with this number.
+    Save(usize),
+}
+
+/// The offset of the first byte from `from` on that isn't in the set, or `end` if each one is.
+#[inline(always)]
+fn run_to(set: &ByteSet, haystack: &[u8], from: usize, end: usize) -> usize
+    requires ordered { (from ≤ end) × (end ≤ length haystack.now) }
+    ensures is { result ≡ run_end set.now haystack.now (end - from) from }
+    ensures within { result ≤ end }
+{
+    for at in from..end {
+        if !set.contains(haystack[at]) {
+            return at;
+        }
+    }
+    end
+}
+
+/// The offset after a step.
+#[inline(always)]
+fn after(step: &Step, haystack: &[u8], at: usize, end: usize) -> usize
+    requires ordered { (at ≤ end) × (end ≤ length haystack.now) }
+    ensures is { result ≡ after_step haystack.now end step.now at }
+    ensures within { result ≤ end }
+{
+    match step {
+        Step::Skip(count) => at + (end - at).min(*count),
+        Step::Run(set) => run_to(set, haystack, at, end),
+        Step::Rest(count) => end.saturating_sub(*count),
+        Step::Save(_) => at,
+    }
+}
+
+/// Writes an offset into the slot with this number, if there is one.
+#[inline(always)]
+fn save(slots: &mut [usize], slot: usize, offset: usize)
+    ensures { slots.new ≡ slice_set slots.old slot offset }
+{
+    if slot < slots.len() {
+        slots[slot] = offset;
+    }
+}
+
+/// Writes what a step writes.
+#[inline(always)]
+fn write(step: &Step, slots: &mut [usize], at: usize)
+    ensures { slots.new ≡ written (step_writes step.now at []) slots.old }
+{
+    match step {
+        Step::Save(slot) => save(slots, *slot, at),
+        Step::Skip(_) => {}
+        Step::Run(_) => {}
+        Step::Rest(_) => {}
+    }
+}
+
+/// Writes what the steps write along a match.
+#[inline(always)]
+fn walk(steps: &[Step], haystack: &[u8], start: usize, end: usize, slots: &mut [usize])
+    requires ordered { (start ≤ end) × (end ≤ length haystack.now) }
+    ensures { slots.new ≡ written (steps_write haystack.now end steps.now start) slots.old }
+{
+    let mut at = start;
+    for i in 0..steps.len() {
+        let step = &steps[i];
+        write(step, slots, at);
+        at = after(step, haystack, at, end);
+    }
+}
+
+/// Writes the slots of a match of known span, by the steps of a layout.
+#[inline(always)]
+pub(crate) fn slots_along(
+    steps: &[Step],
+    haystack: &[u8],
+    start: usize,
+    end: usize,
+    slots: &mut [usize],
+)
+    requires ordered { (start ≤ end) × (end ≤ length haystack.now) }
+    ensures { slots.new ≡ slots_laid haystack.now steps.now start end (length slots.old) }
+{
+    clear(slots);
+    walk(steps, haystack, start, end, slots);
+    save(slots, 0, start);
+    save(slots, 1, end);
+}
