@@ -24,11 +24,12 @@ use std::alloc::{AllocError, Global};
 
 /// Finds the groups of a match of one pattern. Its tables grow while it searches.
 ///
-/// If the pattern has a layout, the slots of a match whose span is known need no search: each group starts and ends at an offset that a
-/// count of bytes, a run of bytes of a set or the end of the match gives.
+/// If the pattern has a layout, the slots of a match whose span is known need no search. Each group then starts and ends at an offset that
+/// is given by a count of bytes, a run of bytes of a set or the end of the match.
 ///
-/// Otherwise the toolchain's tagged automaton searches. It declines spans above 4 GiB and very long ones, and it gives up for good if its tables had to
-/// be dropped several times before they paid off. Then the toolchain's PikeVM searches, which is made by the first search that needs it.
+/// Otherwise the toolchain's tagged automaton searches. It declines spans above 4 GiB and very long ones, and it gives up for good if its
+/// tables had to be dropped several times before they paid off. Then the toolchain's PikeVM searches, which is made by the first search
+/// that needs it.
 #[derive(Drop)]
 pub struct GroupFinder {
     pub(crate) dfa: Dfa,
