@@ -81,18 +81,30 @@ abbrev pub Finds : Config → List (List ℕ) → List ℕ → ℕ → ℕ → �
 Finds config ts h p start stop o slots = (t : List ℕ) (a : Re) → slice_get ts p ≡ Some t → IsParsedAs config t a → (u : Trace) →
     attempt h a accept start ≡ Some u → start ≤ u.end → u.end ≤ stop → HasSlots start u o slots
 
+-- what a finder of a pattern has to write between two offsets
+abbrev pub Writes : Config → List (List ℕ) → List ℕ → ℕ → ℕ → ℕ → ℕ → List ℕ → Type 0
+Writes config ts h p start end n slots = (t : List ℕ) (a : Re) → slice_get ts p ≡ Some t → IsParsedAs config t a → (u : Trace) →
+    attempt h a accept start ≡ Some u → start ≤ u.end → u.end ≡ end → slots ≡ slots_of (record { start = start; trace = u }) n
+
 module _ (config : Config) (ts : List (List ℕ)) (h : List ℕ) (f : FoundMatch) (o : Option ℕ) (slots : List ℕ) where
+  -- the match is one of its pattern
+  own_of : (res : List Re) → AreReadAs config ts res → (first : IsOfFirstPattern res h (as_found f)) → (m : Match) → m.start ≡ f.start →
+      m.start ≤ length h → attempt h (alt_all res) accept m.start ≡ Some m.trace →
+      (attempt h first.matches.pattern accept f.start ≡ Some m.trace) × (f.start ≤ m.trace.end)
+  own_of res read first m same inside there =
+      let here : attempt h (alt_all res) accept f.start ≡ Some m.trace =
+      subst (λ i. attempt h (alt_all res) accept i ≡ Some m.trace) same there in
+      let own : attempt h first.matches.pattern accept f.start ≡ Some m.trace = sym (of_pattern h res f first) ∙ here in
+      (own, (fits h first.matches.pattern f.start m.trace (omega (arith, inside, same)) own).0)
+
   -- a finder that reads far enough finds the match
   match_of : (res : List Re) → AreReadAs config ts res → IsOfFirstPattern res h (as_found f) → (m : Match) → m.start ≡ f.start →
       m.start ≤ length h → attempt h (alt_all res) accept m.start ≡ Some m.trace → (stop : ℕ) → m.trace.end ≤ stop →
       Finds config ts h f.pattern f.start stop o slots → HasSlots f.start m.trace o slots
   match_of res read first m same inside there stop within finds =
-      let here : attempt h (alt_all res) accept f.start ≡ Some m.trace =
-      subst (λ i. attempt h (alt_all res) accept i ≡ Some m.trace) same there in
       let it = read_at config ts res f.pattern first.matches.pattern read first.matches.listed in
-      let own : attempt h first.matches.pattern accept f.start ≡ Some m.trace = sym (of_pattern h res f first) ∙ here in
-      let span = fits h first.matches.pattern f.start m.trace (omega (arith, inside, same)) own in
-      finds it.0 first.matches.pattern it.1 it.2 m.trace own span.0 within
+      let own = own_of res read first m same inside there in
+      finds it.0 first.matches.pattern it.1 it.2 m.trace own.0 own.1 within
 
   -- whatever its end is said to be, it ends in the haystack
   pub end_of : (at : ℕ) → HasFoundStart config ts h at (Some f) → Finds config ts h f.pattern f.start (length h) o slots →
@@ -107,13 +119,15 @@ module _ (config : Config) (ts : List (List ℕ)) (h : List ℕ) (f : FoundMatch
 
   -- the slots of a match whose span is known
   pub slots_known : (res : List Re) → AreReadAs config ts res → IsOfFirstPattern res h (as_found f) → (m : Match) →
-      span_of_match m ≡ span_of_row f → m.start ≤ length h → attempt h (alt_all res) accept m.start ≡ Some m.trace →
-      Finds config ts h f.pattern f.start f.end o slots → (n : ℕ) → length slots ≡ n → slots ≡ slots_of m n
-  slots_known res read first m span inside there finds n width =
+      span_of_match m ≡ span_of_row f → m.start ≤ length h → attempt h (alt_all res) accept m.start ≡ Some m.trace → (n : ℕ) →
+      Writes config ts h f.pattern f.start f.end n slots → slots ≡ slots_of m n
+  slots_known res read first m span inside there n writes =
       let same : m.start ≡ f.start = ap (λ (s : ℕ × ℕ). s.0) span in
       let ends : m.trace.end ≡ f.end = ap (λ (s : ℕ × ℕ). s.1) span in
-      let it = match_of res read first m same inside there f.end (omega (arith, ends)) finds in
-      it.slots_are ∙ ap (λ i. slots_of (record { start = i; trace = m.trace }) (length slots)) (sym same) ∙ ap (slots_of m) width
+      let it = read_at config ts res f.pattern first.matches.pattern read first.matches.listed in
+      let own = own_of res read first m same inside there in
+      writes it.0 first.matches.pattern it.1 it.2 m.trace own.0 own.1 ends
+      ∙ ap (λ i. slots_of (record { start = i; trace = m.trace }) n) (sym same)
 
 -- a match with its true end
 pub span_found : (config : Config) (ts : List (List ℕ)) (h : List ℕ) (at : ℕ) (f : FoundMatch) (end : ℕ) (slots : List ℕ) →

@@ -80,6 +80,44 @@ impl Groups {
         )
     }
 
+    /// Writes the slots of the match that the pattern with a number has between two offsets.
+    #[inline]
+    fn slots_between(
+        &mut self,
+        alloc: Global,
+        haystack: &[u8],
+        pattern: usize,
+        start: usize,
+        end: usize,
+        slots: &mut [usize],
+    ) -> Result<(), CapturesError>
+        requires { end ≤ length haystack.now }
+        ensures written { (o : Options) (texts : List (List ℕ)) → AreGroupsOf o texts self.old → (text : List ℕ) (a : Re) →
+            slice_get texts pattern ≡ Some text → IsParsedAs o.syntax text a → (t : Trace) →
+            attempt haystack.now a accept start ≡ Some t → start ≤ t.end → t.end ≡ end →
+            IfOk result (λ _. slots.new ≡ slots_of (record { start = start; trace = t }) (length slots.old)) }
+        ensures own { (o : Options) (texts : List (List ℕ)) → AreGroupsOf o texts self.old → AreGroupsOf o texts self.new }
+        ensures cleared { IfErr result (λ _. slots.new ≡ replicate (length slots.old) no_offset) }
+        ensures refused { (o : Options) (texts : List (List ℕ)) → AreGroupsOf o texts self.old → (h : List ℕ) →
+            IfErr result (IsCapturesError o h) }
+    {
+        if pattern >= self.patterns.len() {
+            return Ok(());
+        }
+        if start > end {
+            return Ok(());
+        }
+        self.patterns[pattern].slots_between(
+            alloc,
+            &self.syntax,
+            self.size_limit,
+            haystack,
+            start,
+            end,
+            slots,
+        )
+    }
+
     /// Searches a haystack that is UTF-8 if the options require it. The match has the end that the toolchain's matcher finds.
     pub(crate) fn find(
         &mut self,
@@ -153,7 +191,7 @@ impl Groups {
         if found.end > haystack.len() {
             return Ok(());
         }
-        match self.slots_at(
+        match self.slots_between(
             alloc,
             haystack,
             found.pattern,
@@ -161,7 +199,7 @@ impl Groups {
             found.end,
             slots,
         ) {
-            Ok(_) => Ok(()),
+            Ok(()) => Ok(()),
             Err(error) => Err(error),
         }
     }

@@ -4,7 +4,7 @@ ghost use Rattle.regex_hir.specs.Re.{Re, Trace, accept, attempt};
 ghost use Rattle.meta_regex.specs.declared.options.Options.{Options};
 ghost use Rattle.group_finder.specs.Engines.{counted};
 ghost use Rattle.group_finder.specs.Errors.{IsNewError, bytes_allowed};
-ghost use Rattle.group_finder.specs.Slots.{no_offset};
+ghost use Rattle.group_finder.specs.Slots.{no_offset, slots_of};
 ghost use Rattle.group_finder.specs.Patterns.{IsParsedAs};
 ghost use Rattle.group_finder.specs.Groups.{HasSlots};
 ghost use Rattle.captures.specs.Errors.{IsCapturesError};
@@ -121,6 +121,44 @@ impl PatternGroups {
         };
         match finder.groups_at(alloc, haystack, start, stop, slots) {
             Ok(end) => Ok(end),
+            Err(_) => Err(CapturesError::NoMemory),
+        }
+    }
+
+    /// Writes the slots of the match that the pattern has between two offsets, as [`GroupFinder::groups_between`] does.
+    #[inline]
+    pub(crate) fn slots_between(
+        &mut self,
+        alloc: Global,
+        config: &Config,
+        size_limit: usize,
+        haystack: &[u8],
+        start: usize,
+        end: usize,
+        slots: &mut [usize],
+    ) -> Result<(), CapturesError>
+        requires ordered { (start ≤ end) × (end ≤ length haystack.now) }
+        ensures written { (text : List ℕ) (a : Re) → IsPatternGroups config.now text self.old → IsParsedAs config.now text a →
+            (t : Trace) → attempt haystack.now a accept start ≡ Some t → t.end ≡ end →
+            IfOk result (λ _. slots.new ≡ slots_of (record { start = start; trace = t }) (length slots.old)) }
+        ensures own { (text : List ℕ) → IsPatternGroups config.now text self.old → IsPatternGroups config.now text self.new }
+        ensures cleared { IfErr result (λ _. slots.new ≡ replicate (length slots.old) no_offset) }
+        ensures refused { (text : List ℕ) → IsPatternGroups config.now text self.old → (o : Options) → bytes_allowed size_limit ≡ limit_of o →
+            (h : List ℕ) → IfErr result (IsCapturesError o h) }
+    {
+        match self.prepare(alloc, config, size_limit) {
+            Ok(()) => {}
+            Err(error) => {
+                clear(slots);
+                return Err(of_new(error));
+            }
+        }
+        let Some(finder) = &mut self.finder else {
+            clear(slots);
+            return Err(CapturesError::NoMemory);
+        };
+        match finder.groups_between(alloc, haystack, start, end, slots) {
+            Ok(()) => Ok(()),
             Err(_) => Err(CapturesError::NoMemory),
         }
     }

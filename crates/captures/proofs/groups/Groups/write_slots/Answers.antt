@@ -1,4 +1,4 @@
-use Rattle.std.proofs.Common.{ap, arith, length, ℕ, ◌∙◌}
+use Rattle.std.proofs.Common.{ap, arith, length, ℕ, None, ◌∙◌}
 use Rattle.captures.proofs.FoundLemmas.{ends_inside, slots_known}
 use Rattle.captures.proofs.RowLemmas.{slot_of_start, slots_of_span}
 use Rattle.captures.proofs.groups.Groups.write_slots.Goals as goal
@@ -20,5 +20,5 @@ returns-then-found-haystack-clause-written c = λ o texts of res read first m sp
 
 pub returns-in-Ok-clause-written : goal.returns-in-Ok-clause-written
 returns-in-Ok-clause-written c = λ o texts of res read first m span inside there.
-    slots_known o.syntax texts c.args.haystack.now c.args.found c.in-Ok.field-0 c.slots_at.new.slots res read first m span inside there
-    (c.in-Ok.ensures.found o texts of) (length c.args.slots.now) c.slots_at.auto.slots
+    slots_known o.syntax texts c.args.haystack.now c.args.found None c.slots_between.new.slots res read first m span inside there
+    (length c.args.slots.now) (c.in-Ok.ensures.written o texts of)
