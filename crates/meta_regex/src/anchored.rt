@@ -18,8 +18,12 @@ use hirscan::headline::{
 };
 use search_types::{Anchored, Input, Match};
 
-/// A match that is found by one try saves as much as a search of this many bytes costs.
-const GAIN: usize = 128;
+/// A match that is found by one try saves as much as a search of this many bytes costs. A literal costs more, so tries at literals pay only if
+/// these are far enough apart.
+const GAIN: usize = 64;
+
+/// A try in vain costs as much as a search of so many bytes.
+const FAILED: usize = 64;
 
 /// For each byte that a try read in vain, it costs as much as a search of so many bytes.
 const PRICE: usize = 2;
@@ -87,7 +91,7 @@ fn saved_by(tried: &Tried) -> usize {
 fn price_of(tried: &Tried, read: usize) -> usize {
     match tried {
         Tried::Here(_) => 0,
-        _ => read.saturating_mul(PRICE),
+        _ => read.saturating_mul(PRICE).saturating_add(FAILED),
     }
 }
 
@@ -158,7 +162,7 @@ impl Regex {
         tried
     }
 
-    /// Tries the next offset at which a match may start by its literals.
+    /// Tries the next offset at which a match may start by its literals or first bytes.
     fn try_next(&self, cache: &mut Cache, haystack: &[u8], at: usize) -> Step
         requires own { IsCacheOf self.now cache.old }
         requires within { at ≤ length haystack.now }
@@ -174,7 +178,7 @@ impl Regex {
         step_of(tried, haystack, start)
     }
 
-    /// Tries the offsets at which a match may start by its literals, as long as that pays.
+    /// Tries the offsets at which a match may start by its literals or first bytes, as long as that pays.
     pub(crate) fn try_starts(&self, cache: &mut Cache, haystack: &[u8], from: usize) -> Sought
         requires own { IsCacheOf self.now cache.old }
         requires within { from ≤ length haystack.now }
