@@ -18,9 +18,12 @@ use hirscan::headline::{
 };
 use search_types::{Anchored, Input, Match};
 
-/// A match that is found by one try saves as much as a search of this many bytes costs. A literal costs more, so tries at literals pay only if
-/// these are far enough apart.
-const GAIN: usize = 64;
+/// A match that is found by a try at a literal saves as much as a search of this many bytes costs. The literal costs a little more, so tries
+/// at literals pay only if these are some bytes apart.
+const LITERAL_GAIN: usize = 120;
+
+/// A match that is found by a try at a byte saves as much as a search of this many bytes costs.
+const BYTE_GAIN: usize = 64;
 
 /// A try in vain costs as much as a search of so many bytes.
 const FAILED: usize = 64;
@@ -79,10 +82,10 @@ fn result_of(found: Option<Match>) -> Tried
     }
 }
 
-/// How many bytes a try saved.
-fn saved_by(tried: &Tried) -> usize {
+/// How many bytes a try saved at a literal, or else at a byte.
+fn saved_by(tried: &Tried, is_literal: bool) -> usize {
     match tried {
-        Tried::Here(_) => GAIN,
+        Tried::Here(_) => { if is_literal { LITERAL_GAIN } else { BYTE_GAIN } }
         _ => 0,
     }
 }
@@ -155,7 +158,9 @@ impl Regex {
         let before = cache.pair.forward().search_total_len();
         let tried = self.find_there(&mut cache.pair, haystack, at);
         let after = cache.pair.forward().search_total_len();
-        cache.effort.gain(saved_by(&tried));
+        cache
+            .effort
+            .gain(saved_by(&tried, self.begins_with_literal()));
         cache
             .effort
             .charge(price_of(&tried, after.saturating_sub(before)));

@@ -129,6 +129,15 @@ impl Regex {
         }
     }
 
+    /// Whether matches are known to begin with one of some literals.
+    pub(crate) fn begins_with_literal(&self) -> bool {
+        match self.starts {
+            LiteralStarts::Begins(_) => true,
+            LiteralStarts::FirstByte(_) | LiteralStarts::InLine(_) | LiteralStarts::Unknown =>
+                false,
+        }
+    }
+
     /// How many skipped bytes make up for the search that begins at a literal. Where it begins at the start of a line, it costs more.
     pub(crate) fn candidate_price(&self) -> usize {
         match self.starts {

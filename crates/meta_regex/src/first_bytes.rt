@@ -13,7 +13,7 @@ use search_core::ByteSet;
 pub(crate) const MOST_SCANNED: usize = 64;
 
 /// Trees with more states than this aren't examined for the bytes with which their spans begin.
-const MOST_STATES: usize = 4096;
+const MOST_STATES: usize = 1 << 15;
 
 /// Whether the bytes begin with this one.
 fn begins_with(bytes: &[u8], byte: u8) -> bool
