@@ -4,7 +4,7 @@ use crate::ours::{Groups, Listed, Match, Ours, Refusal, GAVE_UP, HAYSTACK_NOT_UT
 use crate::random::Random;
 use crate::settings::Settings;
 use crate::theirs::{SetOf, Theirs, Which};
-use crate::trees::has_unicode_word;
+use crate::trees::{has_unicode_word, repeats_empty_group};
 use regex_syntax::hir::Hir;
 
 /// Patterns that both sides take, compiled by both.
@@ -16,6 +16,8 @@ pub struct Both {
     pub trees: Vec<Hir>,
     pub settings: Settings,
     has_words: bool,
+    /// Whether a group is in a loop whose rounds are all empty.
+    has_empty_groups: bool,
 }
 
 /// What a case showed.
@@ -43,6 +45,7 @@ impl Both {
             fastest: Theirs::new(Which::Fastest, patterns, &settings)?,
             set: SetOf::new(patterns, &settings)?,
             has_words: trees.iter().any(has_unicode_word),
+            has_empty_groups: trees.iter().any(repeats_empty_group),
             trees,
             settings,
         })
@@ -175,13 +178,18 @@ impl Both {
         }
     }
 
+    /// Whether rounds of a loop may be empty: version 1.7.1 returns other groups of these.
+    fn has_empty_rounds(&self) -> bool {
+        self.settings.empty_loops || self.has_empty_groups
+    }
+
     /// The matches of one pattern, replaced by a template.
     fn show_replaced(&mut self, haystack: &[u8], from: usize, shown: &mut Shown) {
         let (template, limit) = template_for(haystack, from);
         let Some(wanted) = self.simplest.replacen(haystack, limit, &template) else { return };
         match self.ours.replacen(haystack, limit, &template) {
             Ok(found) if found == wanted => shown.replaced = true,
-            Ok(_) if self.settings.empty_loops => shown.apart.push("empty loop: something else is replaced"),
+            Ok(_) if self.has_empty_rounds() => shown.apart.push("empty loop: something else is replaced"),
             Ok(found) => shown.differs.push(format!(
                 "replaced by {template:?} up to {limit} {:?}, {:?} by the simplest",
                 String::from_utf8_lossy(&found),
@@ -201,7 +209,7 @@ impl Both {
         let wanted = self.simplest.groups_of(haystack, wanted);
         match self.ours.find_groups(haystack) {
             Ok(found) if found == wanted => shown.groups = Some((found.len(), found.iter().map(|it| it.1.len()).sum())),
-            Ok(found) if self.settings.empty_loops => shown.apart.push(kind_of_loop(&found, &wanted)),
+            Ok(found) if self.has_empty_rounds() => shown.apart.push(kind_of_loop(&found, &wanted)),
             Ok(found) => shown.differs.push(format!("groups {found:?}, {wanted:?} by the simplest")),
             Err(refusal) if refusal.status == UNSUPPORTED => shown.apart.push("groups aren't there"),
             Err(refusal) => shown.differs.push(format!("groups refused: {refusal:?}")),

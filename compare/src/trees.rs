@@ -1,7 +1,7 @@
 //! What is seen of patterns as that crate's parser reads them.
 
 use crate::settings::Settings;
-use regex_syntax::hir::{Class, Hir, HirKind, Literal, Repetition, RepetitionKind, RepetitionRange, WordBoundary};
+use regex_syntax::hir::{Class, GroupKind, Hir, HirKind, Literal, Repetition, RepetitionKind, RepetitionRange, WordBoundary};
 use regex_syntax::ParserBuilder;
 
 /// The tree of a pattern, where that crate's grammar reads it.
@@ -72,6 +72,20 @@ pub fn has_empty_loop(tree: &Hir) -> bool {
         _ => false,
     };
     is_one || parts_of(tree).into_iter().any(has_empty_loop)
+}
+
+/// Whether a group is in a repetition without a bound whose rounds are all empty. The grammar here reads one round in place of many.
+pub fn repeats_empty_group(tree: &Hir) -> bool {
+    let is_one = match tree.kind() {
+        HirKind::Repetition(it) => rounds_of(it).1.is_none() && is_always_empty(&it.hir) && has_group(&it.hir),
+        _ => false,
+    };
+    is_one || parts_of(tree).into_iter().any(repeats_empty_group)
+}
+
+fn has_group(tree: &Hir) -> bool {
+    matches!(tree.kind(), HirKind::Group(it) if !matches!(it.kind, GroupKind::NonCapturing))
+        || parts_of(tree).into_iter().any(has_group)
 }
 
 /// Whether it looks for words by characters.

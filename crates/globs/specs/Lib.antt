@@ -1,3 +1,4 @@
+pub mod ClassNames
 pub mod Matching
 pub mod Paths
 pub mod Reading

@@ -1,6 +1,7 @@
 -- What a glob means as it is written: a machine that reads it character by character.
-use Rattle.std.specs.Prelude.{ℕ, ◌+◌, ◌==◌, Bool, true, false, ◌&&◌, ◌||◌, not, nat_lt, List, [], ◌∷◌, ◌++◌, Option, Some, None, is_some, map, if◌then◌else◌}
+use Rattle.std.specs.Prelude.{ℕ, ◌+◌, ◌==◌, Bool, true, false, ◌&&◌, ◌||◌, not, nat_le, nat_lt, List, [], ◌∷◌, ◌++◌, Option, Some, None, is_some, map, if◌then◌else◌}
 use Rattle.std.specs.List.{list_any}
+use Rattle.globs.specs.ClassNames.{named_ranges}
 use Rattle.globs.specs.Matching.{Anything, Class, Folders, Item, One, Sections, Set, Star, is_slash, section_of, sections_of, item_of}
 use Rattle.globs.specs.declared.reading.Fault.{Fault}
 use Rattle.globs.specs.declared.reading.FaultKind.{FaultKind}
@@ -31,11 +32,16 @@ pub record SetReading : Type 0 where
   pub fresh : Bool
   -- the next character is plain
   pub escaped : Bool
-  -- all that was read
+  -- all that was read, but for what may be the name of a class
   pub raw : List ℕ
+  -- how much of such a name was read: nothing, its bracket, its bracket and colon, or all but its last bracket
+  pub phase : ℕ
+  pub name : List ℕ
+  -- a name wasn't known
+  pub unknown : Bool
 
 abbrev pub no_set : SetReading
-no_set = record { negated = false; ranges = []; low = None; dash = false; fresh = true; escaped = false; raw = [] }
+no_set = record { negated = false; ranges = []; low = None; dash = false; fresh = true; escaped = false; raw = []; phase = 0; name = []; unknown = false }
 
 -- the ranges, if no other character ends the last one
 abbrev pub with_single : List (ℕ × ℕ) → Option ℕ → List (ℕ × ℕ)
@@ -46,8 +52,9 @@ abbrev pub with_dash : Bool → List (ℕ × ℕ) → List (ℕ × ℕ)
 with_dash false ranges = ranges
 with_dash true ranges = ranges ++ (45, 45) ∷ []
 
+-- A set with a name that isn't known has no member.
 abbrev pub all_ranges : SetReading → List (ℕ × ℕ)
-all_ranges s = with_dash s.dash (with_single s.ranges s.low)
+all_ranges s = if s.unknown then [] else with_dash s.dash (with_single s.ranges s.low)
 
 -- a character that is the end of a range, or may begin one
 abbrev pub range_to : List (ℕ × ℕ) → Option ℕ → ℕ → List (ℕ × ℕ)
@@ -71,21 +78,94 @@ escapes syntax c = not (is_globset syntax) && c == 92
 abbrev pub begins_range : SetReading → ℕ → Bool
 begins_range s c = (is_some s.low && not s.dash) && c == 45
 
-abbrev pub add_to_set : Syntax → SetReading → ℕ → SetReading
-add_to_set syntax s c =
+-- a bracket that may begin the name of a class, but not in the syntax of `globset`
+abbrev pub begins_name : Syntax → SetReading → ℕ → Bool
+begins_name syntax s c = (not (is_globset syntax) && not s.dash) && c == 91
+
+abbrev pub begin_name : SetReading → SetReading
+begin_name s = record s { phase = 1; fresh = false }
+
+-- a character that is read outside of names
+abbrev pub add_outside : Syntax → SetReading → ℕ → SetReading
+add_outside syntax s c =
     if s.escaped then add_member s c
     else if escapes syntax c then record s { escaped = true; fresh = false; raw = s.raw ++ c ∷ [] }
     else if negates s c then record s { negated = true; raw = s.raw ++ c ∷ [] }
     else if begins_range s c then record s { dash = true; raw = s.raw ++ c ∷ [] }
+    else if begins_name syntax s c then begin_name s
     else add_member s c
+
+-- ---- names of classes in sets, as `[:alpha:]`
+
+abbrev pub add_members : SetReading → List ℕ → SetReading
+add_members s [] = s
+add_members s (c ∷ cs) = add_members (add_member s c) cs
+
+abbrev pub is_colon : ℕ → Bool
+is_colon c = c == 58
+
+abbrev pub with_colon : Bool → List ℕ → List ℕ
+with_colon false cs = cs
+with_colon true cs = cs ++ 58 ∷ []
+
+-- what was read of a name
+abbrev pub name_text : ℕ → List ℕ → List ℕ
+name_text phase name = if phase == 1 then 91 ∷ [] else 91 ∷ 58 ∷ with_colon (phase == 3) name
+
+-- What was read turned out not to be a name: its characters are members.
+abbrev pub give_up : SetReading → SetReading
+give_up s = record (add_members s (name_text s.phase s.name)) { phase = 0; name = [] }
+
+abbrev pub without_name : SetReading → SetReading
+without_name s = if s.phase == 0 then s else give_up s
+
+-- Names have letters up to `y`.
+abbrev pub is_of_name : ℕ → Bool
+is_of_name c = nat_le 97 c && nat_le c 121
+
+abbrev pub goes_on : SetReading → ℕ → Bool
+goes_on s c = (s.phase == 1 && is_colon c) || (s.phase == 2 && (is_colon c || is_of_name c))
+
+abbrev pub go_on : SetReading → ℕ → SetReading
+go_on s c =
+    if s.phase == 1 then record s { phase = 2 }
+    else if is_colon c then record s { phase = 3 }
+    else record s { name = s.name ++ c ∷ [] }
+
+abbrev pub is_empty : List (ℕ × ℕ) → Bool
+is_empty [] = true
+is_empty (r ∷ rs) = false
+
+-- the characters of a class are members
+abbrev pub end_name : SetReading → SetReading
+end_name s = record s {
+  ranges = with_single s.ranges s.low ++ named_ranges s.name;
+  low = None;
+  raw = s.raw ++ name_text 3 s.name ++ 93 ∷ [];
+  phase = 0;
+  name = [];
+  unknown = s.unknown || is_empty (named_ranges s.name);
+}
+
+abbrev pub ends_name : SetReading → ℕ → Bool
+ends_name s c = s.phase == 3 && c == 93
+
+abbrev pub add_to_name : Syntax → SetReading → ℕ → SetReading
+add_to_name syntax s c =
+    if ends_name s c then end_name s
+    else if goes_on s c then go_on s c
+    else add_outside syntax (give_up s) c
+
+abbrev pub add_to_set : Syntax → SetReading → ℕ → SetReading
+add_to_set syntax s c = if s.phase == 0 then add_outside syntax s c else add_to_name syntax s c
 
 -- a bracket that ends the set
 abbrev pub closes : SetReading → ℕ → Bool
-closes s c = (not s.fresh && not s.escaped) && c == 93
+closes s c = ((not s.fresh && not s.escaped) && not (s.phase == 3)) && c == 93
 
 -- the set, in which the syntax of `globset` has slashes, too
 abbrev pub class_by : SetReading → Class
-class_by s = record { negated = s.negated; slash = true; ranges = all_ranges s }
+class_by s = record { negated = s.negated && not s.unknown; slash = true; ranges = all_ranges s }
 
 abbrev pub set_of : SetReader → SetReading
 set_of s = record {
@@ -96,6 +176,9 @@ set_of s = record {
   fresh = s.fresh;
   escaped = s.escaped;
   raw = s.raw.items;
+  phase = s.phase;
+  name = s.name.items;
+  unknown = s.unknown;
 }
 
 -- ---- globs
@@ -192,7 +275,9 @@ abbrev pub end_set : Syntax → ℕ → Reading → Reading
 end_set syntax at s = record (check_set syntax at (with_item (Set (class_by s.set)) s)) { in_set = false; set = no_set }
 
 abbrev pub add_in_set : Syntax → Reading → ℕ → ℕ → Reading
-add_in_set syntax s at c = if closes s.set c then end_set syntax at s else record s { set = add_to_set syntax s.set c }
+add_in_set syntax s at c =
+    if closes s.set c then end_set syntax at (record s { set = without_name s.set })
+    else record s { set = add_to_set syntax s.set c }
 
 -- ---- groups
 
@@ -268,7 +353,8 @@ add_all syntax at s (c ∷ cs) = add_all syntax (at + 1) (add syntax at s c) cs
 
 -- What was read of an open set is read once more, after a bracket that means itself, and no bracket begins a set.
 abbrev pub add_raw : Syntax → Reading → Reading
-add_raw syntax s = add_all syntax 0 (record (add_plain 91 s) { in_set = false; has_sets = false; set = no_set }) s.set.raw
+add_raw syntax s =
+    add_all syntax 0 (record (add_plain 91 s) { in_set = false; has_sets = false; set = no_set }) (without_name s.set).raw
 
 -- A bracket that no bracket closes means itself in GNU grep's syntax, and so do those after it.
 abbrev pub end_open_set : Syntax → Reading → Reading

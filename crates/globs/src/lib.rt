@@ -1,6 +1,7 @@
 //! Globs: patterns of file names.
 #![tactic(auto)]
 
+mod class_names;
 mod item;
 mod matching;
 mod paths;

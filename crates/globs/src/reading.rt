@@ -225,9 +225,10 @@ impl Reader {
         ensures { OnOk result (reading_of self.new ≡ add_in_set syntax (reading_of self.old) at c) }
     {
         if self.set.closes(c) {
+            self.set.end(alloc)?;
             return self.end_set(alloc, syntax, at);
         }
-        self.set.add(syntax, c)
+        self.set.add(alloc, syntax, c)
     }
 
     fn end_alternative(&mut self, alloc: Global) -> Result<(), AllocError>
@@ -389,6 +390,7 @@ impl Reader {
     fn add_raw(&mut self, alloc: Global, syntax: Syntax) -> Result<(), AllocError>
         ensures { OnOk result (reading_of self.new ≡ add_raw syntax (reading_of self.old)) }
     {
+        self.set.end(alloc)?;
         let set = mem::replace(&mut self.set, SetReader::new(alloc));
         self.in_set = false;
         self.has_sets = false;
