@@ -30,4 +30,5 @@ mod WriteLemmas
 pub mod LineCutLemmas
 pub mod CandidateLemmas
 mod LiteralLemmas
+mod LongLineLemmas
 mod PartLemmas

@@ -17,3 +17,4 @@ pub mod BoundedTrees
 pub mod Candidates
 pub mod Edges
 pub mod LiteralLines
+pub mod LongLines

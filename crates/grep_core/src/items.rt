@@ -62,7 +62,7 @@ fn push_match(
 }
 
 /// Appends a match as a line of its own, unless it is empty.
-fn push_some(
+pub(crate) fn push_some(
     alloc: Global,
     out: &mut Vec<u8>,
     what: &OutputOptions<'_>,

@@ -28,6 +28,7 @@ mod line_finder;
 mod line_patterns;
 mod listing;
 mod literal_lines;
+mod long_lines;
 mod looking;
 mod output_options;
 mod parsed_patterns;

@@ -49,7 +49,7 @@ pub(crate) fn prints_lines(print: Print) -> bool
 }
 
 /// Whether one more line may be selected, after this many.
-fn may_select(what: &OutputOptions<'_>, count: u64) -> bool
+pub(crate) fn may_select(what: &OutputOptions<'_>, count: u64) -> bool
     ensures { result ≡ may_select what.now.most count }
 {
     match what.most {
@@ -98,7 +98,7 @@ fn report_by_flags(
 }
 
 /// Adds one to the count if a line is selected.
-fn count_more(count: u64, is_selected: bool) -> Result<u64, Fault>
+pub(crate) fn count_more(count: u64, is_selected: bool) -> Result<u64, Fault>
     ensures { IfOk result (λ n. n ≡ count + (if is_selected then 1 else 0)) }
 {
     if !is_selected {

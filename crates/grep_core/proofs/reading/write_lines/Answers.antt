@@ -1,7 +1,7 @@
 use Rattle.grep_core.specs.Blocks.{finds_by, reported_bytes}
 use Rattle.grep_core.specs.Lines.{split_lines}
 use Rattle.grep_core.proofs.WriteLemmas.{none_part, shown_written, shown_part}
-use Rattle.grep_core.proofs.reading.write_tail.Goals as goal
+use Rattle.grep_core.proofs.reading.write_lines.Goals as goal
 
 pub returns-in-Err-clause-fault : goal.returns-in-Err-clause-fault
 returns-in-Err-clause-fault g c by = none_part c.args.task (finds_by c.args.task by) c.args.progress.now c.args.read.now
