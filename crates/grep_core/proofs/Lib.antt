@@ -14,6 +14,7 @@ mod MarkLemmas
 mod NeededLemmas
 mod NumberLemmas
 mod PassLemmas
+mod PreviewLemmas
 mod RegexLemmas
 mod ReportRows
 mod ReturnLemmas

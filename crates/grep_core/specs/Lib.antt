@@ -1,5 +1,6 @@
 pub mod Lines
 pub mod Selecting
+pub mod Colors
 pub mod Printing
 pub mod Report
 pub mod Patterns

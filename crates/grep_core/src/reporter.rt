@@ -9,13 +9,13 @@ ghost use Rattle.grep_core.specs.Selecting.{count_selected};
 ghost use Rattle.grep_core.specs.Reporting.{shown, added, added_matches, counts_matches, prints_lines, reported_lines, may_select, still_reported, count_in_all};
 ghost use Rattle.grep_core.specs.declared.output_options.OutputOptions.{OutputOptions as TheOutputOptions};
 
+use crate::colors::{Part, push_marked};
 use crate::context_printer::{ContextPrinter, next_line, see_end};
 use crate::fault::Fault;
 use crate::line::Line;
 use crate::output_options::{OutputOptions, Print};
-use crate::printing::{push_marked, push_name_field};
+use crate::printing::push_name_before;
 use crate::progress::sum;
-use crate::role::Role;
 use crate::separator_state::SeparatorState;
 use search_types::Span;
 use std::alloc::{AllocError, Global};
@@ -209,7 +209,7 @@ fn push_count(
     let Some(name) = name else {
         return push_number(alloc, out, count);
     };
-    push_name_field(out, what, Role::Selected, name)?;
+    push_name_before(out, what, b":", name)?;
     push_number(alloc, out, count)
 }
 
@@ -221,7 +221,7 @@ pub(crate) fn push_name(
 ) -> Result<(), AllocError>
     ensures { OnOk result (out.new.items ≡ out.old.items ++ name_line what.now name.now) }
 {
-    push_marked(out, what.color, b"35", name)?;
+    push_marked(out, &what.color, Part::Name, name)?;
     out.push(if what.zero_names { 0 } else { b'\n' })?;
     Ok(())
 }

@@ -6,6 +6,7 @@
 
 mod binary;
 mod case;
+mod escapes;
 mod files;
 mod format;
 mod headings;
@@ -13,6 +14,7 @@ mod numbers;
 mod options;
 mod values;
 
+pub use escapes::unescaped;
 pub use files::{FileOption, FileValue, file_values};
 pub use numbers::with_numbers;
 pub use options::command;

@@ -27,6 +27,7 @@ use crate::output::Output;
 use crate::selecting_files::Selection;
 use crate::smart_case::ignores_case;
 use crate::task::{Task, shown_name};
+use crate::texts::separated_name;
 use crate::walking::{Kind, is_output, kind_of, output_file, push_folder, push_found};
 use grep_core::{
     Fault, Finder, Headed, LinePatterns, OutputOptions, PatternOptions, Print, SearcherError,
@@ -259,6 +260,29 @@ fn list_file(rt: &HostRuntime, task: Task<'_>, outcome: &mut Outcome, name: &str
     );
 }
 
+/// Searches a file under this name, or prints the name.
+fn search_under(
+    rt: &HostRuntime,
+    finder: &mut Finder<'_>,
+    task: Task<'_>,
+    outcome: &mut Outcome,
+    name: &str,
+    path: &str,
+)
+    ensures tried { Tries outcome.old outcome.new }
+    ensures continues { Continues outcome.old outcome.new }
+{
+    if task.selection.lists {
+        list_file(rt, task, outcome, name);
+        return;
+    }
+    if is_refused_output(rt, task, outcome, name, path) {
+        return;
+    }
+    let width = width_at(rt, &task.asked.what, path);
+    search_aligned(rt, finder, task, outcome, name, width, fs::open(rt, path));
+}
+
 /// Searches a file, or prints its name.
 fn search_file(
     rt: &HostRuntime,
@@ -271,15 +295,13 @@ fn search_file(
     ensures continues { Continues outcome.old outcome.new }
 {
     let name = shown_name(task, path);
-    if task.selection.lists {
-        list_file(rt, task, outcome, name);
-        return;
+    let Some(separator) = task.asked.path_separator else {
+        return search_under(rt, finder, task, outcome, name, path);
+    };
+    match separated_name(rt.alloc(), separator, name) {
+        Ok(name) => search_under(rt, finder, task, outcome, name.as_str(), path),
+        Err(_) => outcome.fail_with(rt, task.asked, path, "out of memory"),
     }
-    if is_refused_output(rt, task, outcome, name, path) {
-        return;
-    }
-    let width = width_at(rt, &task.asked.what, path);
-    search_aligned(rt, finder, task, outcome, name, width, fs::open(rt, path));
 }
 
 /// Whether devices that are found in folders are read.
