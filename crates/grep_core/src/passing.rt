@@ -109,11 +109,7 @@ fn shows_numbers(what: &OutputOptions<'_>) -> bool
 }
 
 /// Counts whole lines that are skipped, if the output depends on the numbers or offsets of lines.
-fn count_over(
-    what: &OutputOptions<'_>,
-    progress: &mut Progress,
-    lines: &[u8],
-) -> Result<(), Fault>
+fn count_over(what: &OutputOptions<'_>, progress: &mut Progress, lines: &[u8]) -> Result<(), Fault>
     ensures number { shows_numbers what.now ≡ true →
         OnOk result (progress.new.number ≡ progress.old.number + count_by (λ b. b == 10) lines.now) }
     ensures place { shows_numbers what.now ≡ true → OnOk result (progress.new.place ≡ progress.old.place + length lines.now) }

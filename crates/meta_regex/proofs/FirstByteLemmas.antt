@@ -1,19 +1,17 @@
 -- Each span of a tree that isn't empty begins with a byte that it may begin with, so none starts where no such byte is.
-use Rattle.std.proofs.Common.{◌≡◌, ◌==◌, ℕ, zero, suc, ◌+◌, ◌-◌, ◌<◌, ◌≤◌, ◌⊎◌, inl, inr, Bool, true, false, ◌&&◌, ◌||◌, not, nat_lt, nat_le, List, [], ◌∷◌, ◌++◌, length, get_or, drop}
-use Rattle.std.proofs.Common.{slice_get, slice_range, Option, Some, None, refl, sym, ap, subst, ◌∙◌, arith, true≢false, All, if◌then◌else◌}
-use Rattle.std.specs.List.{list_any}
+use Rattle.std.proofs.Common.{◌≡◌, ◌==◌, ℕ, zero, suc, ◌+◌, ◌-◌, ◌<◌, ◌≤◌, ◌⊎◌, inl, inr, Bool, true, false, ◌&&◌, nat_le, List, [], ◌∷◌, ◌++◌, length, drop}
+use Rattle.std.proofs.Common.{slice_get, slice_range, Some, refl, sym, ap, subst, ◌∙◌, arith, true≢false, All, if◌then◌else◌}
 use Rattle.std.proofs.lemmas.Bool.Decides.{Decides-eqb}
 use Rattle.std.proofs.Common.{take}
 use Rattle.std.proofs.lemmas.Bool.{and_parts, cases_lt, eq-eqb, le-leb, le-ltb, leb-true, lt-ltb, or_cases, or_left, or_right}
-use Rattle.std.proofs.lemmas.Option.{none-some, same_Some, slice_get_within, get_or_from_slice_get}
+use Rattle.std.proofs.lemmas.Option.{none-some, slice_get_within, get_or_from_slice_get}
 use Rattle.std.proofs.lemmas.Slice.Eq.{starts_is}
 use Rattle.search_core.specs.ByteSets.{has}
 use Rattle.search_core.specs.Utf8.{Spells}
 use Rattle.search_core.specs.Utf8.Spells.{from_0000, from_0080, from_0800, from_1000, from_d000, from_e000, from_10000, from_40000, from_100000}
 use Rattle.hir_core.specs.Tree.{Tree, empty, literal, byte_class, char_class, look, repetition, capture, nothing, cat, never, alt}
 use Rattle.hir_core.specs.Means.{Looks, Means, Rounds, SpellsMember, is_member, stands}
-use Rattle.literal_search.specs.Searches.{IsNextStart, StartsFrom, StartsNowhere}
-use Rattle.meta_regex.specs.FirstBytes.{AreFirstBytes, begins_with, has_high, may_be_empty, may_begin}
+use Rattle.meta_regex.specs.FirstBytes.{AreFirstBytes, has_high, may_be_empty, may_begin}
 
 -- ---- the first byte of a spelling
 pub record Leads (c : ℕ) (s : List ℕ) : Type 0 where

@@ -267,6 +267,30 @@ impl Regex {
         }
     }
 
+    /// A search without literals or first bytes while these don't pay.
+    fn search_resting(
+        &self,
+        alloc: Global,
+        cache: &mut Cache,
+        haystack: &[u8],
+        from: usize,
+    ) -> Result<Option<FoundMatch>, SearchError>
+        requires own { IsCacheOf self.now cache.old }
+        requires within { from ≤ length haystack.now }
+        requires valid { (config_by self.now).utf8 ≡ true → IsValidText haystack.now }
+        ensures own { IsCacheOf self.now cache.new }
+        ensures found { IfOk result (HasFoundStart (config_by self.now) self.now.texts haystack.now from) }
+        ensures preferred { self.now.loops ≡ true → IfOk result (HasFoundSpan (config_by self.now) self.now.texts haystack.now from) }
+        ensures refused { IfErr result (IsSearchError (config_by self.now) haystack.now) }
+    {
+        let found = match self.search_on(alloc, cache, haystack, from) {
+            Ok(found) => found,
+            Err(e) => return Err(e),
+        };
+        cache.effort.pass(searched_len(&found, haystack, from));
+        Ok(found)
+    }
+
     /// Where a search has to begin by the literals or first bytes of matches, or the match that is found by them.
     fn sought_start(&self, cache: &mut Cache, haystack: &[u8], from: usize) -> Sought
         requires own { IsCacheOf self.now cache.old }
@@ -304,6 +328,12 @@ impl Regex {
     {
         if !self.knows_starts() {
             return match self.search_on(alloc, cache, haystack, from) {
+                Ok(found) => Ok(found),
+                Err(e) => Err(e),
+            };
+        }
+        if !cache.effort.pays() {
+            return match self.search_resting(alloc, cache, haystack, from) {
                 Ok(found) => Ok(found),
                 Err(e) => Err(e),
             };
