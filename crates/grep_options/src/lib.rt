@@ -9,6 +9,7 @@ mod case;
 mod files;
 mod format;
 mod headings;
+mod ignoring;
 mod numbers;
 mod options;
 mod values;

@@ -3,6 +3,7 @@ pub mod Binaries
 pub mod Decisions
 pub mod FileTypes
 pub mod Given
+pub mod Ignores
 pub mod Outcomes
 pub mod Selecting
 pub mod SmartCase

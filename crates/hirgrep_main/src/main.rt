@@ -14,6 +14,7 @@ mod columns;
 mod counting;
 mod file_types;
 mod first_bytes;
+mod ignoring;
 mod input;
 mod input_report;
 mod loops;
