@@ -1,8 +1,8 @@
 //! Reads sets of characters in brackets.
 ghost use Rattle.std.specs.Prelude.{◌≡◌, ◌++◌, ◌∷◌, [], OnOk, IfOk};
 ghost use Rattle.globs.specs.Matching.{class_of};
-ghost use Rattle.globs.specs.Reading.{add_member, add_members, add_outside, add_to_name, add_to_set, all_ranges, begin_name, begins_name, begins_range, class_by, closes, end_name, ends_name, escapes};
-ghost use Rattle.globs.specs.Reading.{give_up, go_on, goes_on, has_reversed, is_colon, is_empty, is_globset, is_of_name, name_text, negates, no_set, range_to, set_of, with_dash, with_single, without_name};
+ghost use Rattle.globs.specs.Reading.{add_member, add_members, add_outside, add_to_name, add_to_set, all_ranges, begin_name, begins_name, begins_range, class_by, closes, end_name, ends_name, escapes, folds_case, is_fnmatch, is_gitignore};
+ghost use Rattle.globs.specs.Reading.{give_up, go_on, goes_on, has_reversed, is_colon, names_none, is_globset, is_of_name, name_text, negates, no_set, range_to, set_of, with_dash, with_single, without_name};
 
 use crate::class_names::named_ranges;
 use crate::item::Class;
@@ -28,8 +28,36 @@ pub fn is_globset(syntax: Syntax) -> bool
     ensures { result ≡ is_globset syntax }
 {
     match syntax {
-        Syntax::Fnmatch => false,
-        Syntax::Globset => true,
+        Syntax::Fnmatch | Syntax::Gitignore => false,
+        Syntax::Globset | Syntax::Folded => true,
+    }
+}
+
+pub fn is_fnmatch(syntax: Syntax) -> bool
+    ensures { result ≡ is_fnmatch syntax }
+{
+    match syntax {
+        Syntax::Fnmatch => true,
+        Syntax::Globset | Syntax::Folded | Syntax::Gitignore => false,
+    }
+}
+
+pub fn is_gitignore(syntax: Syntax) -> bool
+    ensures { result ≡ is_gitignore syntax }
+{
+    match syntax {
+        Syntax::Gitignore => true,
+        Syntax::Fnmatch | Syntax::Globset | Syntax::Folded => false,
+    }
+}
+
+/// Whether letters of ASCII match in either case.
+pub fn folds_case(syntax: Syntax) -> bool
+    ensures { result ≡ folds_case syntax }
+{
+    match syntax {
+        Syntax::Folded => true,
+        Syntax::Fnmatch | Syntax::Globset | Syntax::Gitignore => false,
     }
 }
 
@@ -92,7 +120,7 @@ fn push_ranges(ranges: &mut Vec<(char, char)>, more: &[(char, char)]) -> Result<
     Ok(())
 }
 
-fn push_all(chars: &mut Vec<char>, more: &[char]) -> Result<(), AllocError>
+pub fn push_all(chars: &mut Vec<char>, more: &[char]) -> Result<(), AllocError>
     ensures { OnOk result (chars.new.items ≡ chars.old.items ++ more.now) }
 {
     for c in more {
@@ -333,14 +361,15 @@ impl SetReader {
     }
 
     /// The set that was read.
-    pub fn class(&self, alloc: Global) -> Result<Class, AllocError>
-        ensures class { IfOk result (λ class. class_of class ≡ class_by (set_of self.now)) }
+    pub fn class(&self, alloc: Global, syntax: Syntax) -> Result<Class, AllocError>
+        ensures class { IfOk result (λ class. class_of class ≡ class_by syntax (set_of self.now)) }
         ensures ranges { IfOk result (λ class. class.ranges.items ≡ all_ranges (set_of self.now)) }
     {
         let ranges = self.all_ranges(alloc)?;
         Ok(Class {
             negated: self.negated && !self.unknown,
-            slash: true,
+            slash: !is_gitignore(syntax),
+            folds: folds_case(syntax),
             ranges,
         })
     }

@@ -176,6 +176,34 @@ type_options =
     ∷ flag (codes "type-list") []
     ∷ []
 
+-- Ignore files. Of the first three the last one takes effect.
+abbrev pub ignore_switches : List OptionRow
+ignore_switches =
+    flag_over (codes "ignore") [] (codes "no-ignore")
+    ∷ flag_over (codes "no-ignore") [] (codes "ignore")
+    ∷ flag_over (codes "unrestricted") (codes "u") (codes "ignore")
+    ∷ option (codes "ignore-file") [] Append
+    ∷ []
+
+-- which ignore files of folders are read
+abbrev pub ignore_limits : List OptionRow
+ignore_limits =
+    flag (codes "no-ignore-vcs") []
+    ∷ flag (codes "no-ignore-dot") []
+    ∷ flag (codes "no-ignore-parent") []
+    ∷ flag (codes "no-require-git") []
+    ∷ []
+
+-- globs in which letters match in either case
+abbrev pub glob_cases : List OptionRow
+glob_cases =
+    option (codes "iglob") [] Append
+    ∷ flag (codes "glob-case-insensitive") []
+    ∷ []
+
+abbrev pub ignore_options : List OptionRow
+ignore_options = ignore_switches ++ (ignore_limits ++ glob_cases)
+
 abbrev pub file_options : List OptionRow
 file_options =
     glob_options
@@ -184,7 +212,7 @@ file_options =
     ∷ option (codes "max-depth") [] Set
     ∷ option (codes "sort") [] Set
     ∷ flag (codes "files") []
-    ∷ []))
+    ∷ ignore_options))
 
 abbrev pub paired_options : List OptionRow
 paired_options =

@@ -29,6 +29,12 @@ pub fn heading_of(id: &str) -> Option<&'static str> {
         | "ignore"
         | "no-ignore"
         | "ignore-file"
+        | "unrestricted"
+        | "no-ignore-vcs"
+        | "no-ignore-dot"
+        | "no-ignore-parent"
+        | "no-require-git"
+        | "glob-case-insensitive"
         | "max-filesize" => Some("Which files are searched"),
         "directory"
         | "recursive"

@@ -10,6 +10,7 @@ mod escapes;
 mod files;
 mod format;
 mod headings;
+mod ignoring;
 mod numbers;
 mod options;
 mod values;

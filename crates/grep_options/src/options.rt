@@ -55,7 +55,7 @@ pub(crate) fn push_flag<'a>(
 }
 
 /// Appends a flag with a letter that turns off another option.
-fn push_pair<'a>(
+pub(crate) fn push_pair<'a>(
     alloc: Global,
     args: &mut Vec<Arg<'a>>,
     id: &'a str,

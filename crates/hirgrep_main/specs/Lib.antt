@@ -4,6 +4,7 @@ pub mod Decisions
 pub mod FileTypes
 pub mod Given
 pub mod GrepColors
+pub mod Ignores
 pub mod Outcomes
 pub mod Selecting
 pub mod SmartCase

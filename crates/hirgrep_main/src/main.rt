@@ -15,6 +15,7 @@ mod counting;
 mod file_types;
 mod first_bytes;
 mod grep_colors;
+mod ignoring;
 mod input;
 mod input_report;
 mod loops;

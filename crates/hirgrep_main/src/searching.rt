@@ -19,6 +19,7 @@ use crate::asked::{Asked, Devices, Directories, Names};
 use crate::binary::prints_lines;
 use crate::columns::width_at;
 use crate::counting::Counting;
+use crate::ignoring::IgnoreFiles;
 use crate::input::input;
 use crate::input_report::report_one;
 use crate::messages::{Causes, report_no_finder};
@@ -395,7 +396,7 @@ fn is_folder(kind: &io::Result<Kind>) -> bool
     }
 }
 
-/// Searches something of this kind that was found in a folder, unless the options leave it out.
+/// Searches something of this kind that was found in a folder, unless the options leave it out. The ignore files of folders said this of it.
 fn search_unless_skipped(
     rt: &HostRuntime,
     finder: &mut Finder<'_>,
@@ -404,18 +405,22 @@ fn search_unless_skipped(
     left: &mut Vec<String>,
     root: &str,
     path: &str,
+    said: Option<bool>,
     kind: io::Result<Kind>,
 ) -> Result<(), AllocError>
-    ensures skipped { skips_found (selection task.entry.selection.now) (is_folder kind) path.now ≡ true
+    ensures skipped { skips_found (selection task.entry.selection.now) said (is_folder kind) path.now ≡ true
         → (outcome.new ≡ outcome.old) × (left.new ≡ left.old) }
-    ensures file { skips_found (selection task.entry.selection.now) (is_folder kind) path.now ≡ false
+    ensures file { skips_found (selection task.entry.selection.now) said (is_folder kind) path.now ≡ false
         → kind ≡ Ok FoundFile → OnOk result (Tries outcome.old outcome.new) }
-    ensures unread { skips_found (selection task.entry.selection.now) (is_folder kind) path.now ≡ false
+    ensures unread { skips_found (selection task.entry.selection.now) said (is_folder kind) path.now ≡ false
         → IfErr kind (λ _. OnOk result (outcome.new ≡ with_failure outcome.old)) }
     ensures continues { Continues outcome.old outcome.new }
 {
     let is_folder = is_folder(&kind);
-    if task.selection.skips_found(rt.alloc(), is_folder, path)? {
+    if task
+        .selection
+        .skips_found(rt.alloc(), said, is_folder, path)?
+    {
         return Ok(());
     }
     search_kind(rt, finder, task, outcome, left, root, path, kind)
@@ -428,13 +433,15 @@ fn search_found(
     task: Task<'_>,
     outcome: &mut Outcome,
     left: &mut Vec<String>,
+    ignoring: &mut IgnoreFiles,
     root: &str,
     path: &str,
 ) -> Result<(), AllocError>
     ensures { Continues outcome.old outcome.new }
 {
     let kind = kind_of(rt, path, task.asked.follows);
-    search_unless_skipped(rt, finder, task, outcome, left, root, path, kind)
+    let said = ignoring.said(rt, task, outcome, root, path, is_folder(&kind))?;
+    search_unless_skipped(rt, finder, task, outcome, left, root, path, said, kind)
 }
 
 /// Searches the files of a folder, and of the folders in it.
@@ -451,13 +458,23 @@ fn search_folder(
         return Ok(());
     }
     let mut left = Vec::new(rt.alloc());
+    let mut ignoring = IgnoreFiles::new(rt, task, outcome, root)?;
     push_folder(rt, task, outcome, &mut left, root, true)?;
     for _index in 0..u64::MAX {
         let Some(path) = left.pop() else {
             break;
         };
         let path = path.as_str();
-        search_found(rt, finder, task, outcome, &mut left, root, path)?;
+        search_found(
+            rt,
+            finder,
+            task,
+            outcome,
+            &mut left,
+            &mut ignoring,
+            root,
+            path,
+        )?;
         if outcome.ended {
             break;
         }
