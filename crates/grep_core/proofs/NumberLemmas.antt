@@ -6,6 +6,7 @@ use Rattle.std.proofs.lemmas.Bool.{true≢false}
 use Rattle.std.proofs.lemmas.List.{length-take-le}
 use Rattle.grep_core.specs.declared.progress.Progress.{Progress}
 use Rattle.grep_core.specs.declared.progress.Task.{Task}
+use Rattle.grep_core.specs.declared.colors.Part.TheVariants.{Number, Offset}
 use Rattle.grep_core.specs.declared.context_printer.ContextPrinter.{ContextPrinter}
 use Rattle.grep_core.specs.declared.reporter.Reporter.{Reporter}
 use Rattle.grep_core.specs.declared.role.Role.{Role}
@@ -37,8 +38,8 @@ module _ (w : OutputOptions) (name : Option (List ℕ)) (unnumbered : w.numbers 
   fields_same : (role : Role) (column : Option ℕ) (i k j l : ℕ) → fields w name role i column k ≡ fields w name role j column l
   fields_same role column i k j l =
       ap₂ (λ number place. name_field w role name ++ (number ++ (column_field w role column ++ place)))
-      (not_asked w.numbers (number_field w role i) (number_field w role j) unnumbered)
-      (not_asked w.offsets (number_field w role k) (number_field w role l) unplaced)
+      (not_asked w.numbers (number_field w role Number i) (number_field w role Number j) unnumbered)
+      (not_asked w.offsets (number_field w role Offset k) (number_field w role Offset l) unplaced)
 
   abbrev line_at : ℕ → ℕ → SplitLine → TextLine
   line_at i k content = record { number = i; place = k; content = content }
@@ -46,23 +47,23 @@ module _ (w : OutputOptions) (name : Option (List ℕ)) (unnumbered : w.numbers 
   once_same : (role : Role) (content : SplitLine) (marks : List (ℕ × ℕ)) (i k j l : ℕ) →
       printed_once w name role (line_at i k content) marks ≡ printed_once w name role (line_at j l content) marks
   once_same role content marks i k j l =
-      ap (λ text. text ++ line_text w name role (line_at i k content) marks (length marks))
+      ap (λ text. text ++ line_text w name role (line_at i k content) marks marks)
       (fields_same role (first_column w marks) i k j l)
 
-  for_same : (role : Role) (content : SplitLine) (count : ℕ) (marks : List (ℕ × ℕ)) (i k j l : ℕ) →
-      flat_map (printed_for w name role (line_at i k content) count) marks
-      ≡ flat_map (printed_for w name role (line_at j l content) count) marks
-  for_same role content count [] i k j l = refl
-  for_same role content count (s ∷ marks) i k j l =
-      ap₂ (λ first others. (first ++ line_text w name role (line_at i k content) (s ∷ []) count) ++ others)
-      (fields_same role (column_of w s) i (k + s.0) j (l + s.0)) (for_same role content count marks i k j l)
+  for_same : (role : Role) (content : SplitLine) (all marks : List (ℕ × ℕ)) (i k j l : ℕ) →
+      flat_map (printed_for w name role (line_at i k content) all) marks
+      ≡ flat_map (printed_for w name role (line_at j l content) all) marks
+  for_same role content all [] i k j l = refl
+  for_same role content all (s ∷ marks) i k j l =
+      ap₂ (λ first others. (first ++ line_text w name role (line_at i k content) (s ∷ []) all) ++ others)
+      (fields_same role (column_of w s) i (k + s.0) j (l + s.0)) (for_same role content all marks i k j l)
 
   line_same : (role : Role) (content : SplitLine) (found : List (ℕ × ℕ)) (i k j l : ℕ) →
       printed_line w name role (line_at i k content) found ≡ printed_line w name role (line_at j l content) found
   line_same role content found i k j l =
       let marks : List (ℕ × ℕ) = shown_matches w role found in
       ap₂ (λ each once. if w.each_match && nat_lt 0 (length marks) then each else once)
-      (for_same role content (length marks) marks i k j l) (once_same role content marks i k j l)
+      (for_same role content marks marks i k j l) (once_same role content marks i k j l)
 
   match_same : (role : Role) (content : SplitLine) (s : ℕ × ℕ) (i k j l : ℕ) →
       printed_match w name role (line_at i k content) s ≡ printed_match w name role (line_at j l content) s
