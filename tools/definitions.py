@@ -1,7 +1,7 @@
 #!/usr/bin/env python3
 """Lists the definitions on which the contract of a function rests: each one that it cites, and each one that these cite in turn.
 
-    scripts/definitions.py grep_core reading report_input [CLAUSE..]
+    tools/definitions.py grep_core reading report_input [CLAUSE..]
 
 names the crate, the module and the function, and the clauses of it that are meant, if not all. Definitions of this repository and of
 the toolchain's libraries count. Words of the standard library `std` and of the logic, and names that code declares (types and their

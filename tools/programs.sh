@@ -1,6 +1,6 @@
 # Of the programs that stand at the top: which crates each is made of, whether it is built, and the three ways to an answer. It is
 # read by these scripts, which set `top`, the repository's folder.
-. "$top/scripts/dist.sh"
+. "$top/tools/dist.sh"
 
 # The crates that a program is made of, each after those that it uses; libraries of the toolchain have no folder here. The list of
 # crates has each crate behind those that it uses.

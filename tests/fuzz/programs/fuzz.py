@@ -142,7 +142,7 @@ def main():
         fuzz.until(begun + 60 * float(minutes))
         some, count = runs.covered.reached()
     print(
-        f"fuzz/programs: seed {seed}: {fuzz.count} lines and {fuzz.compared} compared in {time.monotonic() - begun:.0f} s ({processor_seconds():.0f} s of a processor), "
+        f"tests/fuzz/programs: seed {seed}: {fuzz.count} lines and {fuzz.compared} compared in {time.monotonic() - begun:.0f} s ({processor_seconds():.0f} s of a processor), "
         f"{len(fuzz.kept)} kept, {some} of {count} blocks reached: {fuzz.wrong} wrong"
     )
     return 1 if fuzz.wrong else 0

@@ -16,7 +16,7 @@ sys.dont_write_bytecode = True
 
 from covered import Covered, not_ended, processor_seconds, run
 
-TOP = os.path.dirname(os.path.dirname(os.path.dirname(os.path.realpath(__file__))))
+TOP = os.path.dirname(os.path.dirname(os.path.dirname(os.path.dirname(os.path.realpath(__file__)))))
 SETTINGS = (b"capacity 0\n", b"classes off\n", b"shrink on\n")  # as in tests/check
 PIECES = [it.encode() for it in """lit 61|lit 6162|lit |bytes 61-7a|bytes 00-FF|chars 61-7a|chars 0-10ffff|chars 80-7ff|cat 2|cat 0|alt 2|alt 0|empty|rep 0 1 greedy
 rep 0 inf greedy|rep 1 inf lazy|rep 2 3 greedy|rep 100 100 greedy|look Start|look End|look StartLF|look EndLF|look StartCRLF|look EndCRLF|look WordAscii|look WordUnicode
@@ -132,7 +132,7 @@ def main():
     fuzz.until(begun + 60 * float(minutes))
     some, count = covered.reached()
     print(
-        f"fuzz/programs notation: seed {seed}: {fuzz.count} inputs in {time.monotonic() - begun:.0f} s ({processor_seconds():.0f} s of a processor), "
+        f"tests/fuzz/programs notation: seed {seed}: {fuzz.count} inputs in {time.monotonic() - begun:.0f} s ({processor_seconds():.0f} s of a processor), "
         f"{len(fuzz.kept)} kept, {some} of {count} blocks reached: {fuzz.wrong} wrong"
     )
     return 1 if fuzz.wrong else 0

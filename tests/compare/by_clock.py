@@ -1,4 +1,4 @@
-"""Runs rounds of random cases by the clock, for compare/run --minutes. Each round takes a new seed and all kinds of patterns. After each
+"""Runs rounds of random cases by the clock, for tests/compare/run --minutes. Each round takes a new seed and all kinds of patterns. After each
 round it writes how far it came into a file. If it is ended, the next run goes on from there. It prints one line, and before that what
 differs, with the command that makes it again."""
 
@@ -51,7 +51,7 @@ class Progress:
 
     def line(self):
         it = self.values
-        return f"compare/run --minutes: {it['rounds']} rounds, {it['cases']} cases in {it['seconds']:.0f} s: {it['different']} differ"
+        return f"tests/compare/run --minutes: {it['rounds']} rounds, {it['cases']} cases in {it['seconds']:.0f} s: {it['different']} differ"
 
 
 def words_of(seed, seconds, arguments):
@@ -79,7 +79,7 @@ def run_round(program, seconds, arguments):
         raise Failed(f"the program ended with status {child.returncode} for --seed {seed}")
     if different:
         again = " ".join([f"--seed {seed}", *(f"{name} {value}" for name, value in OPTIONS.items()), *arguments])
-        print(f"{''.join(EXAMPLES.findall(printed))}compare/run {again} --group G --cases 1 makes the group G again", flush=True)
+        print(f"{''.join(EXAMPLES.findall(printed))}tests/compare/run {again} --group G --cases 1 makes the group G again", flush=True)
     return count_of(CASES.search(printed)), different
 
 

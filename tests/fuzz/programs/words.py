@@ -4,7 +4,7 @@ import os
 import sys
 from dataclasses import dataclass, replace
 
-TOP = os.path.dirname(os.path.dirname(os.path.dirname(os.path.realpath(__file__))))
+TOP = os.path.dirname(os.path.dirname(os.path.dirname(os.path.dirname(os.path.realpath(__file__)))))
 sys.path.insert(0, os.path.join(TOP, "tests"))
 
 from grep_options.options import OPTIONS, PATTERNS

@@ -92,7 +92,7 @@ static int wrong;
 #define CHECK(what)                                                                                     \
     do {                                                                                                \
         if (!(what)) {                                                                                  \
-            printf("refused/library: line %d, %s: %s, allocation %zu\n", __LINE__, now->name, #what, fails_at); \
+            printf("tests/refused/library: line %d, %s: %s, allocation %zu\n", __LINE__, now->name, #what, fails_at); \
             wrong = 1;                                                                                  \
         }                                                                                               \
     } while (0)
