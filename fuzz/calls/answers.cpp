@@ -183,6 +183,29 @@ void compare_offsets(Regexes &made, const Bytes &haystack, size_t from) {
     compare_finds(found, made.other.find_at(haystack, between), made.may_end_elsewhere, "a search from between finds another match");
 }
 
+// The matches with groups are those of the list, and each is found with the same groups from its start on, also with small caches.
+void compare_groups(Regexes &made, const Bytes &haystack, size_t room) {
+    const size_t width = 6;
+    Found all = made.all.find_all(haystack, haystack.size() + 2), rows = made.all.captures_all(haystack, haystack.size() + 2, width);
+    Found some = made.all.captures_all(haystack, room, width - 3);
+    if (are_answers(rows, some))
+        check(rows.count == some.count && std::equal(some.list.begin(), some.list.end(), rows.list.begin()), "a list with groups changes with its room");
+    if (are_answers(all, rows) && !made.may_end_elsewhere)
+        check(all.count == rows.count && all.list == rows.list, "the matches with groups aren't those of the list");
+    for (size_t it = 0; it < rows.list.size() && it < MOST_FROM; ++it) {
+        for (Handle *each : {&made.all, &made.other}) {
+            if (each->is_empty())
+                continue;
+            Found one = each->captures(haystack, rows.list[it].start, width);
+            if (!are_answers(rows, one))
+                continue;
+            check(one.status == HANNEDDOIS_OK && one.match == rows.list[it], "a match with groups isn't found alone");
+            check(std::equal(one.slots.begin(), one.slots.end(), rows.slots.begin() + it * width), "a match has other groups alone");
+        }
+    }
+    note(500, static_cast<uint32_t>(std::min<size_t>(rows.count, 20)));
+}
+
 // Bytes as they are replace the matches of the list. A template with the whole match alone leaves the haystack as it is.
 void compare_replaced(Handle &regex, const Bytes &haystack, size_t room, bool may_end_elsewhere) {
     const Bytes by = {'$', '1', 0xFF}, whole = {'$', '{', '0', '}'};
@@ -216,6 +239,7 @@ void compare(Regexes &made, const Case &given, const Bytes &haystack) {
         compare_lists(made.other, haystack, room, made.may_end_elsewhere);
     compare_matching(made, haystack);
     compare_replaced(made.all, haystack, room, made.may_end_elsewhere);
+    compare_groups(made, haystack, room);
     for (size_t it = 0; it < MOST_FROM && it < given.calls.size() + 2; ++it) {
         size_t from = it == 0 ? 0 : it == 1 ? haystack.size() : given.calls[it - 2].value * haystack.size() / 255;
         compare_offsets(made, haystack, from);

@@ -137,6 +137,76 @@ Found Handle::find_all(const Bytes &haystack, size_t room) {
     return found;
 }
 
+// Both slots of a group are offsets of the match, or neither is. Those of group 0 are the match, and no other group has any.
+void Handle::check_slots(const Match &match, const size_t *slots, size_t count) const {
+    size_t groups = hanneddois_group_count(const_cast<hanneddois_regex *>(&regexes_[at_]), match.pattern);
+    check(groups > 0, "a pattern has no group 0");
+    for (size_t at = 0; at < count; ++at) {
+        bool is_there = slots[at] != HANNEDDOIS_NO_OFFSET;
+        check(!is_there || at / 2 < groups, "a slot after the last group has an offset");
+        check(!is_there || (match.start <= slots[at] && slots[at] <= match.end), "a group is outside its match");
+        if (at % 2) {
+            check(is_there == (slots[at - 1] != HANNEDDOIS_NO_OFFSET), "a group has one offset alone");
+            check(!is_there || slots[at - 1] <= slots[at], "a group ends before it starts");
+        }
+    }
+    check(count < 1 || slots[0] == match.start, "group 0 starts elsewhere than the match");
+    check(count < 2 || slots[1] == match.end, "group 0 ends elsewhere than the match");
+}
+
+Found Handle::captures(const Bytes &haystack, size_t from, size_t count) {
+    Fenced input(haystack.data(), haystack.size()), slots(nullptr, count * sizeof(size_t));
+    memset(slots.data(), UNTOUCHED, slots.size());
+    hanneddois_error error = filled_error();
+    hanneddois_match match = {9, 9, 9};
+    size_t *first = reinterpret_cast<size_t *>(slots.data());
+    hanneddois_status status = hanneddois_captures(raw(), input.data(), input.size(), from, &match, first, count, &error);
+    Found found = searched(status, error, haystack);
+    found.match = {match.pattern, match.start, match.end};
+    found.slots.assign(first, first + count);
+    if (status != HANNEDDOIS_OK) {
+        check(found.match == Match(), "without a match its fields aren't 0");
+        for (size_t slot : found.slots)
+            check(slot == HANNEDDOIS_NO_OFFSET, "without a match a slot has an offset");
+        return found;
+    }
+    check(from <= match.start && match.start <= match.end && match.end <= haystack.size(), "a match is outside the haystack, or before the start of the search");
+    check(match.pattern < count_, "a match is of a pattern that isn't there");
+    check_slots(found.match, first, count);
+    return found;
+}
+
+Found Handle::captures_all(const Bytes &haystack, size_t room, size_t width) {
+    Fenced input(haystack.data(), haystack.size()), rows(nullptr, room * sizeof(hanneddois_match)), slots(nullptr, room * width * sizeof(size_t));
+    memset(rows.data(), UNTOUCHED, rows.size());
+    memset(slots.data(), UNTOUCHED, slots.size());
+    hanneddois_error error = filled_error();
+    size_t count = 99;
+    hanneddois_match *matches = reinterpret_cast<hanneddois_match *>(rows.data());
+    size_t *first = reinterpret_cast<size_t *>(slots.data());
+    hanneddois_status status = hanneddois_captures_all(raw(), input.data(), input.size(), matches, room, first, room * width, width, &count, &error);
+    Found found = searched(status, error, haystack);
+    found.count = count;
+    check(status != HANNEDDOIS_OK || count > 0, "matches are found, and their count is 0");
+    check(status != HANNEDDOIS_NONE || count == 0, "no match is found, and the count isn't 0");
+    check(!is_empty() || count == 0, "an empty handle has matches");
+    size_t written = std::min(room, count);
+    for (size_t it = 0; it < written; ++it) {
+        found.list.push_back({matches[it].pattern, matches[it].start, matches[it].end});
+        check_slots(found.list.back(), first + it * width, width);
+    }
+    found.slots.assign(first, first + written * width);
+    for (size_t it = written * sizeof(hanneddois_match); it < rows.size(); ++it)
+        check(rows.data()[it] == UNTOUCHED, "rows after the last match are written");
+    size_t untouched;
+    memset(&untouched, UNTOUCHED, sizeof untouched);
+    for (size_t it = written * width; it < room * width; ++it) {
+        bool may_be_cleared = !found.is_answer() && it < (written + 1) * width && first[it] == HANNEDDOIS_NO_OFFSET;
+        check(may_be_cleared || first[it] == untouched, "slots after the last match are written");
+    }
+    return found;
+}
+
 Found Handle::matching(const Bytes &haystack, size_t marks) {
     Fenced input(haystack.data(), haystack.size()), matched(nullptr, marks);
     memset(matched.data(), UNTOUCHED, marks);
@@ -213,6 +283,25 @@ void Handle::check_counts() {
     size_t bytes = hanneddois_memory_usage(raw()), clears = hanneddois_clear_count(raw());
     check(count_ > 0 || (bytes == 0 && clears == 0), "an empty handle has a cache");
     note(100, clears < 8 ? static_cast<uint32_t>(clears) : 8);
+    check_groups();
+}
+
+// Each pattern has group 0, which has no name. Names are UTF-8, and their length doesn't change with their room.
+void Handle::check_groups() {
+    check(hanneddois_group_count(raw(), count_) == 0, "a pattern that isn't there has groups");
+    for (size_t pattern = 0; pattern < count_; ++pattern) {
+        size_t groups = hanneddois_group_count(raw(), pattern);
+        check(groups > 0, "a pattern has no group 0");
+        for (size_t group = 0; group <= groups && group < 8; ++group) {
+            size_t length = hanneddois_group_name(raw(), pattern, group, Fenced("", 0).data(), 0);
+            check(length == 0 || (group > 0 && group < groups), "group 0, or a group that isn't there, has a name");
+            Fenced name(nullptr, length / 2 + 3);
+            memset(name.data(), UNTOUCHED, name.size());
+            check(hanneddois_group_name(raw(), pattern, group, name.data(), name.size()) == length, "the length of a name changes with its room");
+            for (size_t at = length; at < name.size(); ++at)
+                check(name.data()[at] == UNTOUCHED, "bytes after a name are written");
+        }
+    }
 }
 
 } // namespace fuzz

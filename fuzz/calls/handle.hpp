@@ -37,6 +37,7 @@ struct Found {
     std::vector<Match> list;
     size_t count = 0;
     std::vector<uint8_t> marks;
+    std::vector<size_t> slots;
     Bytes output;      // as far as there is room
     size_t length = 0; // of the whole output
     bool is_answer() const { return status == HANNEDDOIS_OK || status == HANNEDDOIS_NONE || status == HANNEDDOIS_OUTPUT_TOO_SMALL; }
@@ -62,6 +63,8 @@ class Handle {
     Found is_match(const Bytes &haystack);
     Found find_at(const Bytes &haystack, size_t from);
     Found find_all(const Bytes &haystack, size_t room);
+    Found captures(const Bytes &haystack, size_t from, size_t slots);
+    Found captures_all(const Bytes &haystack, size_t room, size_t width);
     Found matching(const Bytes &haystack, size_t marks);
     Found replace_all(const Bytes &haystack, const Bytes &by, size_t limit, uint32_t flags, size_t room);
     Found copy_from(Handle &from);
@@ -73,6 +76,8 @@ class Handle {
     uint32_t flags() const { return flags_; }
 
   private:
+    void check_slots(const Match &match, const size_t *slots, size_t count) const;
+    void check_groups();
     Found searched(hanneddois_status status, const hanneddois_error &error, const Bytes &haystack);
     hanneddois_regex *raw() { return &regexes_[at_]; }
 

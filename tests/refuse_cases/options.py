@@ -30,6 +30,7 @@ OTHERS = [
     ("-F", "-i", "-c", "-f", "patterns", "a.log", "letters"),
     ("-v", "-n", "-b", "-H", "-T", "-e", PATTERN, "a.log"),
     ("-A1", "-B1", "--color=always", "-n", "-e", PATTERN, "a.log", "letters"),
+    ("-M3", "--max-columns-preview", "--column", "--color=always", "-e", PATTERN, "a.log", "letters"),
     ("-r", "-l", "-Z", "-e", PATTERN, "tree"),
     ("-r", "--exclude-from", "globs", "--sort", "path", "-e", PATTERN, "tree"),
     ("-e", PATTERN, "missing", "a.log"),

@@ -14,6 +14,7 @@ mod MarkLemmas
 mod NeededLemmas
 mod NumberLemmas
 mod PassLemmas
+mod PreviewLemmas
 mod RegexLemmas
 mod ReportRows
 mod ReturnLemmas
@@ -30,4 +31,5 @@ mod WriteLemmas
 pub mod LineCutLemmas
 pub mod CandidateLemmas
 mod LiteralLemmas
+mod LongLineLemmas
 mod PartLemmas

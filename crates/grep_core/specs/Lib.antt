@@ -1,5 +1,6 @@
 pub mod Lines
 pub mod Selecting
+pub mod Colors
 pub mod Printing
 pub mod Report
 pub mod Patterns
@@ -17,3 +18,4 @@ pub mod BoundedTrees
 pub mod Candidates
 pub mod Edges
 pub mod LiteralLines
+pub mod LongLines

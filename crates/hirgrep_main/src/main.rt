@@ -14,6 +14,8 @@ mod columns;
 mod counting;
 mod file_types;
 mod first_bytes;
+mod grep_colors;
+mod ignoring;
 mod input;
 mod input_report;
 mod loops;
@@ -28,16 +30,18 @@ mod selecting_files;
 mod shown;
 mod smart_case;
 mod task;
+mod texts;
 mod walking;
 
 use crate::arguments::{arguments_of, report_usage};
-use crate::asked::{Asked, Directories, asked_of, input_name, is_colorful};
+use crate::asked::{Asked, Directories, asked_of, color_of, input_name, is_colorful};
 use crate::file_types::{TYPES, list_of_types};
 use crate::messages::{report_error, report_output};
 use crate::outcome::Outcome;
 use crate::patterns::{gives_patterns, lines_of, patterns_of};
 use crate::searching::{Files, search};
 use crate::selecting_files::{Selection, selection_of};
+use crate::texts::GivenTexts;
 use clap::ArgMatches;
 use grep_options::{command, is_set, with_numbers};
 use std::alloc::AllocError;
@@ -162,7 +166,11 @@ fn run_matches(rt: &HostRuntime, matches: &ArgMatches<'_>) -> Result<u8, AllocEr
     if is_set(matches, "type-list") {
         return print_types(rt);
     }
-    let asked = asked_of(matches, is_colorful(rt));
+    let is_colorful = is_colorful(rt);
+    let given = GivenTexts::new(rt, matches, color_of(matches, is_colorful))?;
+    given.report_old_colors(rt);
+    let texts = given.texts(matches.get_str("path-separator"));
+    let asked = asked_of(matches, is_colorful, texts);
     let outcome = run_asked(rt, &asked, matches)?;
     Ok(outcome.status(&asked))
 }
