@@ -23,6 +23,8 @@ from ._common import (BAD_ARGUMENT, CAPACITY_TOO_SMALL, CASE_INSENSITIVE, CLOSED
                       NO_PATTERN, NO_UNICODE, NONE, NOT_UTF8, OCTAL, OK, RAISE_CAPACITY, SHRINK, SWAP_GREED, SYNTAX_ERROR, TOO_LARGE,
                       UTF8, WHICH, WORD_BOUNDARY, Error)
 from ._groups import add_methods, parse_templates
+from ._streams import Stream
+from ._streams import streams_of as _streams_of
 
 try:
     if os.environ.get("HANNEDDOIS_LIBRARY"):
@@ -37,7 +39,7 @@ except ImportError:
 __all__ = ["BAD_ARGUMENT", "CAPACITY_TOO_SMALL", "CASE_INSENSITIVE", "CLOSED", "CRLF", "DOTALL", "DOT_MATCHES_NEW_LINE", "EMPTY_LOOP", "EMPTY_LOOPS",
            "Error", "GROUPS", "HAYSTACK_NOT_UTF8", "I", "IGNORECASE", "IGNORE_WHITESPACE", "M", "MATCHING_PATTERNS", "MULTILINE", "MULTI_LINE",
            "Match", "NESTS_TOO_DEEP", "NOFLAG", "NONE", "NOT_UTF8", "NO_BYTE_CLASSES", "NO_MEMORY", "NO_PATTERN", "NO_UNICODE", "OCTAL",
-           "OK", "Pattern", "PatternError", "RAISE_CAPACITY", "Regex", "S", "SHRINK", "SWAP_GREED", "SYNTAX_ERROR", "TOO_LARGE", "U", "UNICODE", "UTF8",
+           "OK", "Pattern", "PatternError", "RAISE_CAPACITY", "Regex", "S", "SHRINK", "SWAP_GREED", "Stream", "SYNTAX_ERROR", "TOO_LARGE", "U", "UNICODE", "UTF8",
            "VERBOSE", "WHICH", "WORD_BOUNDARY", "X", "backend", "compile", "error", "escape", "findall", "finditer", "fullmatch", "match", "purge", "search",
            "split", "sub", "subn", "version"]
 
@@ -108,8 +110,7 @@ class Regex(Matcher):
         """Returns a new Stream: a search of input that comes in pieces. All of a regex share an automaton and its cache.
 
         Raises Error if a pattern has a Unicode word boundary, as \\b or \\B: write (?-u:\\b), or use NO_UNICODE."""
-        from ._streams import Stream, streams_of  # what needs no streams needn't load ctypes
-        return Stream(streams_of(self))
+        return Stream(_streams_of(self))
 
     which = Matcher.matching_patterns  # the name in version 0.2
 
