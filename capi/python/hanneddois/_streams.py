@@ -5,13 +5,18 @@ import weakref
 
 from ._common import RAISE_CAPACITY, Error, count_characters
 
-try:
-    from ._extension import StreamSet
-except ImportError:
-    from ._stream_calls import StreamSet
-
 # How many bytes `scan` asks for at once.
 _PIECE = 1 << 16
+
+
+def _make_set(*arguments):
+    """Makes the streams of patterns, by what makes the other searches."""
+    from . import backend
+    if backend == "extension":
+        from ._extension import StreamSet
+    else:
+        from ._stream_calls import StreamSet
+    return StreamSet(*arguments)
 
 
 class _Streams:
@@ -24,7 +29,7 @@ class _Streams:
         flags = regex.flags | (0 if regex.capacity else RAISE_CAPACITY)
         encoded = tuple(it.encode() if isinstance(it, str) else bytes(it) for it in regex.patterns)
         try:
-            self.set = StreamSet(encoded, flags, regex.capacity, regex.size_limit, regex.nest_limit)
+            self.set = _make_set(encoded, flags, regex.capacity, regex.size_limit, regex.nest_limit)
         except Error as error:
             count_characters(error, regex.patterns)
             raise
