@@ -174,9 +174,87 @@ static void many(void)
     hanneddois_streams_free(&streams);
 }
 
+static uint32_t dice = 1;
+
+static size_t throw_to(size_t end)
+{
+    dice = dice * 1664525 + 1013904223;
+    return (dice >> 8) % end;
+}
+
+static void write_ends(char *told, const hanneddois_end *ends, size_t count)
+{
+    for (size_t i = 0; i < count; i++)
+        sprintf(told + strlen(told), "%zu:%zu ", ends[i].pattern, ends[i].end);
+}
+
+/* What one call over the whole input reports, in a set that is made anew. */
+static void whole(const char *texts, uint32_t flags, const char *input, size_t length, char *told)
+{
+    hanneddois_streams streams = HANNEDDOIS_EMPTY;
+    static hanneddois_end ends[1000];
+    size_t stream, taken, count;
+    CHECK(make(&streams, texts, HANNEDDOIS_RAISE_CAPACITY | flags) == HANNEDDOIS_OK && hanneddois_stream_new(&streams, &stream) == HANNEDDOIS_OK);
+    CHECK(hanneddois_stream_feed(&streams, stream, bytes(input), length, ends, 1000, &taken, &count, &error) == HANNEDDOIS_OK && taken == length);
+    write_ends(told, ends, count);
+    CHECK(hanneddois_stream_close(&streams, stream, ends, 1000, &count, &error) == HANNEDDOIS_OK);
+    write_ends(told, ends, count);
+    hanneddois_streams_free(&streams);
+}
+
+/* Random inputs in random pieces, fed to streams in random turns, over a cache of the least capacity: each reports what one call does. */
+static void random_turns(const char *texts, uint32_t flags, const char *letters)
+{
+    enum { STREAMS = 12, LENGTH = 60, ROOM = 8000 };
+    static char inputs[STREAMS][LENGTH], told[STREAMS][ROOM], wanted[ROOM];
+    size_t numbers[STREAMS], done[STREAMS] = {0}, left = STREAMS;
+    hanneddois_streams streams = HANNEDDOIS_EMPTY;
+    CHECK(make(&streams, texts, HANNEDDOIS_RAISE_CAPACITY | flags) == HANNEDDOIS_OK);
+    for (size_t i = 0; i < STREAMS; i++) {
+        for (size_t k = 0; k < LENGTH; k++)
+            inputs[i][k] = letters[throw_to(strlen(letters))];
+        told[i][0] = '\0';
+        CHECK(hanneddois_stream_new(&streams, &numbers[i]) == HANNEDDOIS_OK);
+    }
+    while (left > 0) {
+        size_t i = throw_to(STREAMS), length = throw_to(9);
+        if (done[i] == LENGTH)
+            continue;
+        if (length > LENGTH - done[i])
+            length = LENGTH - done[i];
+        if (throw_to(8) == 0) {
+            size_t copy;
+            CHECK(hanneddois_stream_clone(&streams, numbers[i], &copy) == HANNEDDOIS_OK && hanneddois_stream_free(&streams, numbers[i]) == HANNEDDOIS_OK);
+            numbers[i] = copy;
+        }
+        CHECK(feed(&streams, numbers[i], inputs[i] + done[i], length, 4, told[i]));
+        done[i] += length;
+        left -= done[i] == LENGTH;
+    }
+    for (size_t i = 0; i < STREAMS; i++) {
+        wanted[0] = '\0';
+        CHECK(finish(&streams, numbers[i], told[i]));
+        whole(texts, flags, inputs[i], LENGTH, wanted);
+        CHECK(strcmp(told[i], wanted) == 0);
+    }
+    hanneddois_streams_free(&streams);
+}
+
+static void turns(void)
+{
+    for (int round = 0; round < 40; round++) {
+        random_turns("ab+\n[a-c]b\n(?-u:\\b)b\nc$\n", 0, "aabbc ");
+        random_turns("^a+$\nb\\n\n(?:a|ba)*b\n", HANNEDDOIS_MULTI_LINE, "ab\n");
+        random_turns("[a-c]{4}d\n\\Bc\n", HANNEDDOIS_NO_UNICODE, "abcd -");
+    }
+    random_turns("[^a]b\n(?-u:\\xff)\n", 0, "ab\303\244\377");
+    random_turns("\n.\n", HANNEDDOIS_UTF8, "ab~ ");
+}
+
 int main(void)
 {
     cuts();
+    turns();
     misuse();
     many();
     return failed;
