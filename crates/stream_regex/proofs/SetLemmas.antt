@@ -1,13 +1,15 @@
 -- What is in a list of streams after one of them was replaced.
 use Rattle.std.proofs.Common.{◌≡◌, ◌≢◌, ℕ, zero, suc, List, [], ◌∷◌, slice_set, Option, Some, None, Result, refl, ap, sym, subst, ◌∙◌}
-use Rattle.std.specs.Prelude.{⊤}
+use Rattle.std.specs.Prelude.{IfSome, ⊤}
+use Rattle.std.proofs.lemmas.List.Elements.{All-set}
 use Rattle.std.proofs.lemmas.Option.{none-some}
-use Rattle.streams.specs.Feeding.{IsFed, IsStreamClosed}
+use Rattle.lazy_dfa.specs.Dfas.{Dfa}
+use Rattle.streams.specs.Feeding.{IsStreamClosed}
+use Rattle.streams.specs.Streams.{IsStreamOf}
 use Rattle.streams.specs.declared.errors.StreamError.{StreamError}
-use Rattle.streams.specs.declared.feeding.Fed.{Fed}
 use Rattle.streams.specs.declared.stream.Stream.{Stream}
 use Rattle.streams.specs.declared.stream.StreamMatch.{StreamMatch}
-use Rattle.stream_regex.specs.Sets.{IsClosedAt, IsFedAt, IsSetAt, SetValue, stream_at}
+use Rattle.stream_regex.specs.Sets.{AreStreamsOf, IsClosedAt, IsSetAt, SetValue, stream_at}
 
 abbrev Streams : Type 0
 Streams = List (Option Stream)
@@ -44,16 +46,20 @@ pub put_back : (old new : SetValue) (n : ℕ) (s t : Stream) (mid : Streams) →
 put_back old new n s t mid dfa is out in_again =
     set_at old new n s (Some t) dfa is (in_again ∙ ap (λ xs. slice_set xs n (Some t)) out ∙ set_twice old.streams n None (Some t))
 
-pub fed_at : (old new : SetValue) (n : ℕ) (s t : Stream) (mid : Streams) (bytes : List ℕ) (rows after : List StreamMatch) (f : Fed)
-    (r : Result ⊤ StreamError) → new.dfa ≡ old.dfa → stream_at old.streams n ≡ Some s → mid ≡ slice_set old.streams n None →
-    new.streams ≡ slice_set mid n (Some t) → IsFed old.dfa s t bytes rows after f r → IsFedAt old new n bytes rows after f r
-fed_at old new n s t mid bytes rows after f r dfa is out in_again fed = record {
-  before = s;
-  is = is;
-  now = t;
-  set = put_back old new n s t mid dfa is out in_again;
-  fed = fed;
-}
+pub changed_back : (old new : SetValue) (n : ℕ) (s t : Stream) (mid : Streams) → new.dfa ≡ old.dfa → stream_at old.streams n ≡ Some s →
+    mid ≡ slice_set old.streams n None → new.streams ≡ slice_set mid n (Some t) → (stream_at old.streams n ≢ None) × IsSetAt old new n (Some t)
+changed_back old new n s t mid dfa is out in_again = (λ none. none-some s (sym none ∙ is), put_back old new n s t mid dfa is out in_again)
+
+pub taken_out : (old new : SetValue) (n : ℕ) (s : Stream) → new.dfa ≡ old.dfa → stream_at old.streams n ≡ Some s →
+    new.streams ≡ slice_set old.streams n None → (stream_at old.streams n ≢ None) × IsSetAt old new n None
+taken_out old new n s dfa is out = (λ none. none-some s (sym none ∙ is), set_at old new n s None dfa is out)
+
+-- all are still streams of the automaton
+pub kept_streams : (d : Dfa) (xs ys zs : Streams) (n : ℕ) (t : Stream) → AreStreamsOf d xs → IsStreamOf d t → ys ≡ slice_set xs n None →
+    zs ≡ slice_set ys n (Some t) → AreStreamsOf d zs
+kept_streams d xs ys zs n t all own out in_again =
+    subst (λ (l : Streams). AreStreamsOf d l) (sym in_again) (All-set (λ (o : Option Stream). IfSome o (IsStreamOf d)) ys n (Some t) own
+    (subst (λ (l : Streams). AreStreamsOf d l) (sym out) (All-set (λ (o : Option Stream). IfSome o (IsStreamOf d)) xs n None tt all)))
 
 pub closed_at : (old new : SetValue) (n : ℕ) (s t : Stream) (mid : Streams) (rows after : List StreamMatch) (count : ℕ)
     (r : Result ⊤ StreamError) → new.dfa ≡ old.dfa → stream_at old.streams n ≡ Some s → mid ≡ slice_set old.streams n None →
