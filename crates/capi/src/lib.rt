@@ -11,7 +11,7 @@ mod failure;
 mod groups;
 mod options;
 mod replacing;
-mod streams;
+mod stream_sets;
 mod texts;
 mod words;
 
@@ -20,6 +20,6 @@ pub use compiled::Compiled;
 pub use failure::{Failure, NewError};
 pub use meta_regex::{FoundMatch, SearchError};
 pub use options::Options;
-pub use streams::streams_of;
+pub use stream_sets::streams_of;
 pub use texts::{accepts, patterns_of};
 pub use words::error_text;
