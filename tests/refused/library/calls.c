@@ -261,6 +261,210 @@ static void version(hanneddois_regex *regex, struct result *result)
     result->status = HANNEDDOIS_OK;
 }
 
+/* ---- calls with streams: each sets up what it needs with ample memory, and the regex is of no use to it */
+
+/* What the allocator counted up to now. */
+struct counted {
+    size_t asked, failed, fails_at;
+};
+
+static struct counted with_ample_memory(void)
+{
+    struct counted it = {asked, failed, fails_at};
+    start(0);
+    return it;
+}
+
+static void go_on(struct counted it)
+{
+    asked = it.asked, failed = it.failed, fails_at = it.fails_at;
+}
+
+/* Word boundaries are those of ASCII, since streams have no others. */
+static hanneddois_status make_set(hanneddois_streams *streams, hanneddois_error *error)
+{
+    size_t length = 0;
+    hanneddois_options options = now->options;
+    if (strstr(now->texts, "\\b") != NULL)
+        options.flags |= HANNEDDOIS_NO_UNICODE;
+    for (size_t i = 0; i < now->count; i++)
+        length += now->lengths[i];
+    return hanneddois_streams_new(streams, (const uint8_t *)now->texts, length, now->lengths, now->count, &options, error);
+}
+
+/* A set with a stream that has read the first bytes of the haystack. */
+static hanneddois_streams set_with_stream(size_t length)
+{
+    hanneddois_streams streams = HANNEDDOIS_EMPTY;
+    hanneddois_error error;
+    hanneddois_end ends[64];
+    size_t stream, taken, count;
+    CHECK(make_set(&streams, &error) == HANNEDDOIS_OK);
+    CHECK(hanneddois_stream_new(&streams, &stream) == HANNEDDOIS_OK && stream == 0);
+    CHECK(hanneddois_stream_feed(&streams, 0, haystack(), length, ends, 64, &taken, &count, &error) == HANNEDDOIS_OK && taken == length);
+    return streams;
+}
+
+/* Feeds the rest of the haystack to a stream and closes it. Writes how many ends there are from here on, and a sum of them all. */
+static void finish(hanneddois_streams *streams, size_t stream, size_t from, size_t sums[2])
+{
+    hanneddois_error error;
+    hanneddois_end ends[64];
+    size_t taken, count, last;
+    CHECK(hanneddois_stream_feed(streams, stream, haystack() + from, now->length - from, ends, 60, &taken, &count, &error) == HANNEDDOIS_OK);
+    CHECK(taken == now->length - from);
+    CHECK(hanneddois_stream_close(streams, stream, ends + count, 4, &last, &error) == HANNEDDOIS_OK);
+    sums[0] += count + last;
+    for (size_t i = 0; i < count + last; i++)
+        sums[1] += (ends[i].pattern + 1) * (ends[i].end + 1);
+}
+
+static void streams_new(hanneddois_regex *regex, struct result *result)
+{
+    (void)regex;
+    hanneddois_streams streams = HANNEDDOIS_EMPTY;
+    result->status = make_set(&streams, &result->error);
+    CHECK((streams.inside != NULL) == (result->status == HANNEDDOIS_OK));
+    struct counted it = with_ample_memory();
+    hanneddois_streams_free(&streams);
+    go_on(it);
+}
+
+static void streams_free(hanneddois_regex *regex, struct result *result)
+{
+    (void)regex;
+    struct counted it = with_ample_memory();
+    hanneddois_streams streams = set_with_stream(now->length);
+    go_on(it);
+    hanneddois_streams_free(&streams);
+    CHECK(streams.inside == NULL);
+    result->status = HANNEDDOIS_OK;
+}
+
+static void streams_memory_usage(hanneddois_regex *regex, struct result *result)
+{
+    (void)regex;
+    struct counted it = with_ample_memory();
+    hanneddois_streams streams = set_with_stream(now->length);
+    go_on(it);
+    result->number = hanneddois_streams_memory_usage(&streams);
+    it = with_ample_memory();
+    hanneddois_streams_free(&streams);
+    go_on(it);
+    result->status = HANNEDDOIS_OK;
+}
+
+/* A call that adds a stream, to which the haystack is then fed. */
+static void added(struct result *result, int is_copy)
+{
+    struct counted it = with_ample_memory();
+    size_t half = is_copy ? now->length / 2 : 0, stream = 9, sums[2] = {0, 0}, first[2] = {0, 0};
+    hanneddois_streams streams = set_with_stream(half);
+    go_on(it);
+    result->error = (hanneddois_error){0, 0, 0, 0, 0, 0};
+    result->status = is_copy ? hanneddois_stream_clone(&streams, 0, &stream) : hanneddois_stream_new(&streams, &stream);
+    result->error.status = result->status;
+    it = with_ample_memory();
+    CHECK(stream == (result->status == HANNEDDOIS_OK));
+    finish(&streams, 0, half, first);
+    if (result->status == HANNEDDOIS_OK)
+        finish(&streams, stream, half, sums);
+    CHECK(result->status != HANNEDDOIS_OK || (sums[0] == first[0] && sums[1] == first[1]));
+    hanneddois_streams_free(&streams);
+    go_on(it);
+}
+
+static void stream_new(hanneddois_regex *regex, struct result *result)
+{
+    (void)regex;
+    added(result, 0);
+}
+
+static void stream_clone(hanneddois_regex *regex, struct result *result)
+{
+    (void)regex;
+    added(result, 1);
+}
+
+/* What wasn't taken when memory ran out is fed again: the ends are those with ample memory. */
+static void stream_feed(hanneddois_regex *regex, struct result *result)
+{
+    (void)regex;
+    hanneddois_end ends[64];
+    size_t taken = 99, count = 99, sums[2] = {0, 0};
+    struct counted it = with_ample_memory();
+    hanneddois_streams streams = set_with_stream(0);
+    go_on(it);
+    result->status = hanneddois_stream_feed(&streams, 0, haystack(), now->length, ends, 60, &taken, &count, &result->error);
+    it = with_ample_memory();
+    CHECK(taken <= now->length && count <= 60);
+    CHECK(result->status != HANNEDDOIS_OK || taken == now->length);
+    for (size_t i = 0; i < count; i++)
+        sums[1] += (ends[i].pattern + 1) * (ends[i].end + 1);
+    sums[0] = count;
+    finish(&streams, 0, taken, sums);
+    result->count = sums[0];
+    result->number = sums[1];
+    hanneddois_streams_free(&streams);
+    go_on(it);
+}
+
+/* A stream that can't be closed is as it was. */
+static void stream_close(hanneddois_regex *regex, struct result *result)
+{
+    (void)regex;
+    hanneddois_end ends[64];
+    size_t count = 99, sums[2] = {0, 0};
+    struct counted it = with_ample_memory();
+    hanneddois_streams streams = set_with_stream(now->length);
+    go_on(it);
+    result->status = hanneddois_stream_close(&streams, 0, ends, 60, &count, &result->error);
+    it = with_ample_memory();
+    if (result->status == HANNEDDOIS_OK) {
+        sums[0] = count;
+        for (size_t i = 0; i < count; i++)
+            sums[1] += (ends[i].pattern + 1) * (ends[i].end + 1);
+    } else {
+        CHECK(count == 0);
+        finish(&streams, 0, now->length, sums);
+    }
+    result->count = sums[0];
+    result->number = sums[1];
+    hanneddois_streams_free(&streams);
+    go_on(it);
+}
+
+static void stream_reset(hanneddois_regex *regex, struct result *result)
+{
+    (void)regex;
+    size_t sums[2] = {0, 0};
+    struct counted it = with_ample_memory();
+    hanneddois_streams streams = set_with_stream(now->length / 2);
+    go_on(it);
+    result->status = hanneddois_stream_reset(&streams, 0);
+    it = with_ample_memory();
+    finish(&streams, 0, 0, sums);
+    result->number = sums[1];
+    hanneddois_streams_free(&streams);
+    go_on(it);
+}
+
+/* A number that isn't noted as free, since memory ran out, isn't used again. */
+static void stream_free(hanneddois_regex *regex, struct result *result)
+{
+    (void)regex;
+    size_t stream = 9;
+    struct counted it = with_ample_memory();
+    hanneddois_streams streams = set_with_stream(now->length / 2);
+    go_on(it);
+    result->status = hanneddois_stream_free(&streams, 0);
+    it = with_ample_memory();
+    CHECK(hanneddois_stream_free(&streams, 0) == HANNEDDOIS_BAD_ARGUMENT);
+    CHECK(hanneddois_stream_new(&streams, &stream) == HANNEDDOIS_OK && stream < 2);
+    hanneddois_streams_free(&streams);
+    go_on(it);
+}
+
 struct row {
     const char *name;
     call *call;
@@ -285,6 +489,15 @@ static const struct row CALLS[] = {
     {"hanneddois_error_text", error_text, 0, 0},
     {"hanneddois_memory_usage", memory_usage, 0, 0},
     {"hanneddois_clear_count", clear_count, 0, 0},
+    {"hanneddois_streams_new", streams_new, 0, 1},
+    {"hanneddois_streams_free", streams_free, 0, 0},
+    {"hanneddois_streams_memory_usage", streams_memory_usage, 0, 0},
+    {"hanneddois_stream_new", stream_new, 0, 1},
+    {"hanneddois_stream_feed", stream_feed, 0, 1},
+    {"hanneddois_stream_close", stream_close, 0, 1},
+    {"hanneddois_stream_reset", stream_reset, 0, 0},
+    {"hanneddois_stream_clone", stream_clone, 0, 1},
+    {"hanneddois_stream_free", stream_free, 0, 0},
     {"hanneddois_version", version, 0, 0},
 };
 
