@@ -3,8 +3,9 @@ ghost use Rattle.std.specs.Prelude.{◌≡◌, slice_set};
 ghost use Rattle.meta_regex.specs.Regexes.{overlaid};
 
 use crate::failure::{
-    BAD_ARGUMENT, CAPACITY_TOO_SMALL, CLOSED, EMPTY_LOOP, Failure, HAYSTACK_NOT_UTF8, NESTS_TOO_DEEP,
-    NO_MEMORY, NOT_UTF8, OUTPUT_TOO_SMALL, SYNTAX_ERROR, TOO_LARGE, UNSUPPORTED, kind_of,
+    BAD_ARGUMENT, CAPACITY_TOO_SMALL, CLOSED, EMPTY_LOOP, Failure, HAYSTACK_NOT_UTF8,
+    NESTS_TOO_DEEP, NO_MEMORY, NOT_UTF8, OUTPUT_TOO_SMALL, SYNTAX_ERROR, TOO_LARGE, UNSUPPORTED,
+    kind_of,
 };
 
 /// The message for what is wrong with a pattern.

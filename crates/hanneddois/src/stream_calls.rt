@@ -94,7 +94,10 @@ pub extern "C" fn hanneddois_streams_free(alloc: Global, streams: &mut StreamHan
 
 /// The bytes that the cache of a set is estimated to need.
 #[unsafe(no_mangle)]
-pub extern "C" fn hanneddois_streams_memory_usage(alloc: Global, streams: &mut StreamHandle) -> usize
+pub extern "C" fn hanneddois_streams_memory_usage(
+    alloc: Global,
+    streams: &mut StreamHandle,
+) -> usize
     ensures same { streams.new.value ≡ streams.old.value }
 {
     let Some(inside) = streams.take(alloc) else {

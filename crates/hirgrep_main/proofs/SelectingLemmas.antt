@@ -75,9 +75,11 @@ pub ignored_more : (old now new : List Rule) (n : ℕ) (content : List ℕ) → 
 ignored_more old now new n content e h =
     let count = length-append h.0 (content ∷ []) in (
       h.0 ++ content ∷ [],
-      (omega (arith, count, h.1.0),
-      e ∙ (ap (λ m. m ++ ignore_rules content) h.1.1
-          ∙ (append_assoc old (flat_map ignore_rules h.0) (ignore_rules content) ∙ ap (λ m. old ++ m) (sym (one_more h.0 content))))),
+      (
+        omega (arith, count, h.1.0),
+        e ∙ (ap (λ m. m ++ ignore_rules content) h.1.1
+            ∙ (append_assoc old (flat_map ignore_rules h.0) (ignore_rules content) ∙ ap (λ m. old ++ m) (sym (one_more h.0 content)))),
+      ),
     )
 
 pub ignored_as : (old new : List Rule) (n k : ℕ) → n ≡ k → AreIgnored old new n → AreIgnored old new k

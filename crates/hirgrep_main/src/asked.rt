@@ -258,7 +258,7 @@ pub fn input_name<'a>(matches: &ArgMatches<'a>) -> &'a str
 }
 
 /// What separates groups of lines. Of the two options, the later one has turned off the other. With `--passthru` there are no groups.
-fn groups_of<'a>(matches: &ArgMatches<'a>) -> GroupSeparator<'a>
+pub fn groups_of<'a>(matches: &ArgMatches<'a>) -> GroupSeparator<'a>
     ensures { group_text result ≡ group_given (found_of matches.now) }
 {
     if is_set(matches, "no-group-separator") || is_set(matches, "passthru") {
@@ -319,9 +319,13 @@ fn most_bytes_by(given: Option<u64>) -> Option<u64>
 }
 
 /// What is printed for each input. The width of numbers depends on the input, and is 0 here.
-fn what_of<'a>(matches: &ArgMatches<'a>, is_colorful: bool, texts: Texts<'a>) -> OutputOptions<'a>
-    ensures options { result ≡ what_of (found_of matches.now) is_colorful texts.entry result.groups }
-    ensures groups { group_text result.groups ≡ group_given (found_of matches.now) }
+fn what_of<'a>(
+    matches: &ArgMatches<'_>,
+    is_colorful: bool,
+    texts: Texts<'a>,
+    groups: GroupSeparator<'a>,
+) -> OutputOptions<'a>
+    ensures { result ≡ what_of (found_of matches.now) is_colorful texts.entry groups.entry }
 {
     OutputOptions {
         invert: is_set(matches, "invert-match"),
@@ -341,19 +345,23 @@ fn what_of<'a>(matches: &ArgMatches<'a>, is_colorful: bool, texts: Texts<'a>) ->
         most_bytes: most_bytes_by(number(matches, "max-columns")),
         preview: is_set(matches, "max-columns-preview"),
         width: 0,
-        groups: groups_of(matches),
+        groups,
     }
 }
 
 /// What the options ask for. `is_colorful` says whether standard output is a terminal that supports colours.
-pub fn asked_of<'a>(matches: &ArgMatches<'a>, is_colorful: bool, texts: Texts<'a>) -> Asked<'a>
-    ensures options { result ≡ asked_of (found_of matches.now) is_colorful texts.entry result.what.groups }
-    ensures groups { group_text result.what.groups ≡ group_given (found_of matches.now) }
+pub fn asked_of<'a>(
+    matches: &ArgMatches<'_>,
+    is_colorful: bool,
+    texts: Texts<'a>,
+    groups: GroupSeparator<'a>,
+) -> Asked<'a>
+    ensures { result ≡ asked_of (found_of matches.now) is_colorful texts.entry groups.entry }
 {
     Asked {
         how: how_of(matches),
         smart_case: is_set(matches, "smart-case"),
-        what: what_of(matches, is_colorful, texts),
+        what: what_of(matches, is_colorful, texts, groups),
         binary: binary_of(matches),
         names: names_of(matches),
         directories: directories_of(matches),

@@ -34,7 +34,7 @@ mod texts;
 mod walking;
 
 use crate::arguments::{arguments_of, report_usage};
-use crate::asked::{Asked, Directories, asked_of, color_of, input_name, is_colorful};
+use crate::asked::{Asked, Directories, asked_of, color_of, groups_of, input_name, is_colorful};
 use crate::file_types::{TYPES, list_of_types};
 use crate::messages::{report_error, report_output};
 use crate::outcome::Outcome;
@@ -153,6 +153,19 @@ fn print_types(rt: &HostRuntime) -> Result<u8, AllocError> {
     }
 }
 
+/// Runs the search that the options ask for, with these texts, and returns the exit status.
+fn run_with<'a>(
+    rt: &HostRuntime,
+    matches: &'a ArgMatches<'_>,
+    is_colorful: bool,
+    given: &'a GivenTexts,
+) -> Result<u8, AllocError> {
+    let texts = given.texts(matches.get_str("path-separator"));
+    let asked = asked_of(matches, is_colorful, texts, groups_of(matches));
+    let outcome = run_asked(rt, &asked, matches)?;
+    Ok(outcome.status(&asked))
+}
+
 /// Runs what the command line asks for, and returns the exit status. Basic regular expressions are an error.
 fn run_matches(rt: &HostRuntime, matches: &ArgMatches<'_>) -> Result<u8, AllocError>
     ensures { is_set (found_of matches.now) (codes "basic-regexp") ≡ true → IfOk result (λ status. status ≡ 2) }
@@ -169,10 +182,7 @@ fn run_matches(rt: &HostRuntime, matches: &ArgMatches<'_>) -> Result<u8, AllocEr
     let is_colorful = is_colorful(rt);
     let given = GivenTexts::new(rt, matches, color_of(matches, is_colorful))?;
     given.report_old_colors(rt);
-    let texts = given.texts(matches.get_str("path-separator"));
-    let asked = asked_of(matches, is_colorful, texts);
-    let outcome = run_asked(rt, &asked, matches)?;
-    Ok(outcome.status(&asked))
+    run_with(rt, matches, is_colorful, &given)
 }
 
 fn run(rt: &HostRuntime) -> Result<u8, AllocError> {

@@ -8,12 +8,13 @@ use Rattle.stream_regex.proofs.SetLemmas.{closed_at, kept_streams}
 use Rattle.stream_regex.proofs.set.StreamSet.close.Goals as goal
 
 pub invariant_of-self-2 : goal.invariant_of-self-2
-invariant_of-self-2 c =
-    (subst (λ (d : Dfa). IsCacheOf d c.close-count.new.cache) c.automaton.ensures c.close-count.ensures.own,
-    kept_streams c.self.inside.regex c.self.inside.streams.items c.take_at.new.streams.items c.put_at.new.streams.items c.args.number
-    c.close-count.new.self c.self.invariant.1
-    (subst (λ (d : Dfa). IsStreamOf d c.close-count.new.self) c.automaton.ensures c.close-count.ensures.stream)
-    c.take_at.ensures.left c.put_at.ensures)
+invariant_of-self-2 c = (
+  subst (λ (d : Dfa). IsCacheOf d c.close-count.new.cache) c.automaton.ensures c.close-count.ensures.own,
+  kept_streams c.self.inside.regex c.self.inside.streams.items c.take_at.new.streams.items c.put_at.new.streams.items c.args.number
+      c.close-count.new.self c.self.invariant.1
+      (subst (λ (d : Dfa). IsStreamOf d c.close-count.new.self) c.automaton.ensures c.close-count.ensures.stream)
+      c.take_at.ensures.left c.put_at.ensures,
+)
 
 pub returns : goal.returns
 returns c =

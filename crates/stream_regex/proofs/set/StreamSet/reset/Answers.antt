@@ -6,10 +6,11 @@ use Rattle.stream_regex.proofs.SetLemmas.{changed_back, kept_streams}
 use Rattle.stream_regex.proofs.set.StreamSet.reset.Goals as goal
 
 pub invariant_of-self-2 : goal.invariant_of-self-2
-invariant_of-self-2 c =
-    (c.self.invariant.0,
-    kept_streams c.self.inside.regex c.self.inside.streams.items c.take_at.new.streams.items c.put_at.new.streams.items c.args.number
-    c.new.result c.self.invariant.1 (c.new.ensures.own c.self.inside.regex) c.take_at.ensures.left c.put_at.ensures)
+invariant_of-self-2 c = (
+  c.self.invariant.0,
+  kept_streams c.self.inside.regex c.self.inside.streams.items c.take_at.new.streams.items c.put_at.new.streams.items c.args.number
+      c.new.result c.self.invariant.1 (c.new.ensures.own c.self.inside.regex) c.take_at.ensures.left c.put_at.ensures,
+)
 
 pub returns : goal.returns
 returns c =
