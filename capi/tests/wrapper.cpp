@@ -505,11 +505,11 @@ static void streams_may_fail()
     CHECK(!hanneddois::stream_set("a\\bb", flag::no_unicode).empty());
     hanneddois::stream_set none, set("a+b");
     hanneddois::stream nothing, opened = set.open();
-    failure why;
+    failure reason;
     CHECK_THROWS(none.open(), error.status() == status::bad_argument);
     CHECK_THROWS(nothing.feed("a"), error.status() == status::bad_argument);
-    CHECK(nothing.close(why).empty() && why.status() == status::bad_argument);
-    CHECK(nothing.clone(why).position() == 0 && why.status() == status::bad_argument);
+    CHECK(nothing.close(reason).empty() && reason.status() == status::bad_argument);
+    CHECK(nothing.clone(reason).position() == 0 && reason.status() == status::bad_argument);
     survives_failed_allocations([](failure &why) { hanneddois::stream_set("a pattern that is longer than a short string", {}, why); });
     survives_failed_allocations([&](failure &why) {
         opened.reset();

@@ -13,7 +13,7 @@ def _make_set(*arguments):
     """Makes the streams of patterns, by what makes the other searches."""
     from . import backend
     if backend == "extension":
-        from ._extension import StreamSet
+        from ._extension import StreamSet  # type: ignore[import,no-redef]
     else:
         from ._stream_calls import StreamSet
     return StreamSet(*arguments)
@@ -36,7 +36,7 @@ class _Streams:
 
 
 # The streams of each regex that has some.
-_made = weakref.WeakKeyDictionary()
+_made: "weakref.WeakKeyDictionary" = weakref.WeakKeyDictionary()
 # Taken to make the streams of a regex, so that two threads don't make them twice.
 _making = threading.RLock()
 
