@@ -137,8 +137,9 @@ def marks_the_line_feed(case):
 
 def has_other_previews(case):
     """ripgrep's --max-columns-preview counts what a reader takes for a character, and -M bytes: so a line may be printed whole, and marked as
-    cut."""
-    return case.has("--max-columns-preview") and (case.reads(LETTERS | BROKEN) or any(b"\r" in it for it in case.data().values()))
+    cut. With -o it counts the
+    other matches of the line, too, that begin after what it prints of one."""
+    return case.has("--max-columns-preview") and (case.has("-o") or case.reads(LETTERS | BROKEN) or any(b"\r" in it for it in case.data().values()))
 
 
 GREP = [
