@@ -1,5 +1,5 @@
 //! Finds patterns by automata. Where these give up at a quit byte, a program of the toolchain for the same patterns answers.
-ghost use Rattle.std.specs.Prelude.{◌≡◌, [], IfErr, IfOk, map, option_map, true, ◌≤◌, length};
+ghost use Rattle.std.specs.Prelude.{◌≡◌, IfErr, IfOk, map, option_map, true, ◌≤◌, length};
 ghost use Rattle.grep_core.specs.Candidates.{IsLineStart, IsNextLine};
 ghost use Rattle.grep_core.specs.LongLines.{IsNextSpan, IsFoundSpan};
 ghost use Rattle.grep_core.specs.Printing.{span_pair};
@@ -8,7 +8,6 @@ ghost use Rattle.grep_core.specs.Searchers.{IsMatchReported, AreReported, IsSear
 use crate::candidates::Reached;
 use crate::fallback::ends_at;
 use crate::fault::Fault;
-use crate::line_buffer::LineBuffer;
 use crate::line_finder::LineFinder;
 use crate::line_patterns::LinePatterns;
 use crate::searcher::{Searcher, SearcherError};
@@ -40,8 +39,10 @@ pub struct Finder<'t> {
     line_size: Size,
     /// How often caches of the search of lines were cleared that have been replaced by larger ones.
     past_clears: usize,
-    /// The buffer into which the last input was read, for the next one.
-    buffer: LineBuffer,
+    /// Room for the bytes of an input, which is kept for the next one.
+    room: Vec<u8>,
+    /// How many reads there were into it.
+    reads: u64,
 }
 
 impl<'t> Model for Finder<'t> {
@@ -108,25 +109,25 @@ impl<'t> Finder<'t> {
             candidates,
             line_size: Size::first(),
             past_clears: 0,
-            buffer: LineBuffer::new(alloc),
+            room: Vec::new(alloc),
+            reads: 0,
         })
     }
 
-    /// Takes the buffer for the bytes of an input.
-    pub(crate) fn take_buffer(&mut self, alloc: Global) -> LineBuffer
-        ensures empty { result ≡ [] }
-        ensures same { self.new ≡ self.old }
-    {
-        let mut buffer = mem::replace(&mut self.buffer, LineBuffer::new(alloc));
-        buffer.clear(alloc);
-        buffer
-    }
-
-    /// Keeps the buffer for the next input.
-    pub(crate) fn keep_buffer(&mut self, buffer: LineBuffer)
+    /// Takes the room for the bytes of an input. Returns it, and how many reads there were into it.
+    pub(crate) fn take_room(&mut self, alloc: Global) -> (Vec<u8>, u64)
         ensures { self.new ≡ self.old }
     {
-        self.buffer = buffer;
+        let room = mem::replace(&mut self.room, Vec::new(alloc));
+        (room, self.reads)
+    }
+
+    /// Keeps the room for the next input, and how many reads there were into it.
+    pub(crate) fn keep_room(&mut self, room: Vec<u8>, reads: u64)
+        ensures { self.new ≡ self.old }
+    {
+        self.room = room;
+        self.reads = reads;
     }
 
     /// Whether a carriage return right before a line feed belongs to the end of a line.

@@ -7,6 +7,7 @@ use crate::fault::Fault;
 use std::alloc::{AllocError, Global};
 use std::io::Read;
 use std::marker::Model;
+use std::mem;
 
 /// The greatest number of bytes that one read asks for.
 const BLOCK: usize = 65536;
@@ -18,12 +19,12 @@ const FIRST_BLOCK: usize = 4096;
 /// How many reads ask for the smaller number.
 const FIRST_BLOCKS: u64 = 16;
 
-/// A buffer of more bytes isn't kept for the next input.
+/// Room for more bytes isn't kept for the next input.
 const KEPT: usize = 1 << 20;
 
 /// Buffered input: what was read and isn't processed yet. It is the first `len` bytes of a buffer; the rest of the buffer is room for the
 /// next read. So bytes that are processed with the block in which they were read are never copied. Nothing is allocated once there is room
-/// for a block and a line. One buffer serves all inputs, so its first reads are those of the first ones.
+/// for a block and a line. One buffer serves all inputs, so it counts the reads of the earlier ones too.
 #[derive(Drop)]
 pub(crate) struct LineBuffer {
     buffer: Vec<u8>,
@@ -97,24 +98,32 @@ fn move_down(buffer: &mut Vec<u8>, from: usize, end: usize)
 }
 
 impl LineBuffer {
-    pub(crate) fn new(alloc: Global) -> LineBuffer
+    /// Begins to read an input into this room, into which there were so many reads.
+    pub(crate) fn over(room: Vec<u8>, reads: u64) -> LineBuffer
         ensures { result ≡ [] }
     {
         LineBuffer {
-            buffer: Vec::new(alloc),
+            buffer: room,
             len: 0,
-            reads: 0,
+            reads,
         }
     }
 
-    /// Removes all bytes, before another input is read. A buffer that became large for a long line is freed.
-    pub(crate) fn clear(&mut self, alloc: Global)
+    /// How many reads there were.
+    pub(crate) fn reads(&self) -> u64 {
+        self.reads
+    }
+
+    /// Takes the room for the next input, and leaves nothing. Room that became large for a long line is freed.
+    pub(crate) fn take_room(&mut self, alloc: Global) -> Vec<u8>
         ensures { self.new ≡ [] }
     {
         self.len = 0;
-        if self.buffer.len() > KEPT {
-            self.buffer = Vec::new(alloc);
+        let room = mem::replace(&mut self.buffer, Vec::new(alloc));
+        if room.len() > KEPT {
+            return Vec::new(alloc);
         }
+        room
     }
 
     pub(crate) fn bytes(&self) -> &[u8]

@@ -619,10 +619,13 @@ pub fn report_input<R: Read, W: Write>(
         (n : ℕ) × Appends (W.contents writer.old) (W.contents writer.new)
         (take n (report what.now (found_by by) name.now with_name known text)))) }
 {
-    let mut read = finder.take_buffer(alloc);
+    let (room, reads) = finder.take_room(alloc);
+    let mut read = LineBuffer::over(room, reads);
     let reported = report_buffered(
         alloc, finder, what, name, with_name, known, reader, writer, &mut read,
     );
-    finder.keep_buffer(read);
+    let reads = read.reads();
+    let room = read.take_room(alloc);
+    finder.keep_room(room, reads);
     reported
 }
