@@ -80,6 +80,10 @@ glob_syntax true = Folded
 abbrev pub glob_body : List ℕ → List ℕ
 glob_body text = without_first 47 (without_last_slash (without_first 33 text))
 
+-- The glob of a type of files has no fault.
+abbrev pub is_type_glob : List ℕ → Bool
+is_type_glob text = is_none (read Globset text).fault
+
 abbrev pub glob_fault : Bool → List ℕ → Option Fault
 glob_fault folds text = (read (glob_syntax folds) (glob_body text)).fault
 

@@ -31,6 +31,7 @@ mod shown;
 mod smart_case;
 mod task;
 mod texts;
+mod type_changes;
 mod walking;
 
 use crate::arguments::{arguments_of, report_usage};
@@ -42,6 +43,7 @@ use crate::patterns::{gives_patterns, lines_of, patterns_of};
 use crate::searching::{Files, search};
 use crate::selecting_files::{Selection, selection_of};
 use crate::texts::GivenTexts;
+use crate::type_changes::{changes_types, types_given};
 use clap::ArgMatches;
 use grep_options::{command, is_set, with_numbers};
 use std::alloc::AllocError;
@@ -126,6 +128,19 @@ fn run_chosen(
     run_words(rt, asked, words)
 }
 
+/// Runs the search that the options ask for, of files of these types.
+fn run_typed(
+    rt: &HostRuntime,
+    asked: &Asked,
+    types: &[(&str, &str)],
+    matches: &ArgMatches<'_>,
+) -> Result<Outcome, AllocError> {
+    match selection_of(rt, asked, types, matches)? {
+        Some(selection) => run_chosen(rt, asked, matches, &selection),
+        None => Ok(Outcome::failure()),
+    }
+}
+
 /// Runs the search that the options ask for, in the folder that is named, if there is one.
 fn run_asked(
     rt: &HostRuntime,
@@ -135,15 +150,21 @@ fn run_asked(
     if !enter(rt, matches.get_strs("directory").unwrap_or(&[])) {
         return Ok(Outcome::failure());
     }
-    match selection_of(rt, asked, &TYPES, matches)? {
-        Some(selection) => run_chosen(rt, asked, matches, &selection),
+    if !changes_types(matches) {
+        return run_typed(rt, asked, &TYPES, matches);
+    }
+    match types_given(rt, &TYPES, matches)? {
+        Some(types) => run_typed(rt, asked, &types, matches),
         None => Ok(Outcome::failure()),
     }
 }
 
 /// Prints the types of files, and returns the exit status.
-fn print_types(rt: &HostRuntime) -> Result<u8, AllocError> {
-    let text = list_of_types(rt.alloc(), &TYPES)?;
+fn print_types(rt: &HostRuntime, matches: &ArgMatches<'_>) -> Result<u8, AllocError> {
+    let Some(types) = types_given(rt, &TYPES, matches)? else {
+        return Ok(2);
+    };
+    let text = list_of_types(rt.alloc(), &types)?;
     match rt.stdout().write_all(text.as_bytes()) {
         Ok(()) => Ok(0),
         Err(e) => {
@@ -177,7 +198,7 @@ fn run_matches(rt: &HostRuntime, matches: &ArgMatches<'_>) -> Result<u8, AllocEr
         return Ok(2);
     }
     if is_set(matches, "type-list") {
-        return print_types(rt);
+        return print_types(rt, matches);
     }
     let is_colorful = is_colorful(rt);
     let given = GivenTexts::new(rt, matches, color_of(matches, is_colorful))?;
