@@ -1,5 +1,5 @@
 -- Rules that choose files: globs in the order in which they were given, of which the last one that matches decides.
-use Rattle.std.specs.Prelude.{ℕ, ◌-◌, ◌==◌, Bool, true, false, ◌&&◌, ◌||◌, not, nat_lt, List, [], ◌∷◌, length, take, drop, slice_index, Option, Some, None, if◌then◌else◌}
+use Rattle.std.specs.Prelude.{ℕ, ◌-◌, ◌==◌, Bool, true, false, ◌&&◌, ◌||◌, not, nat_lt, List, [], ◌∷◌, length, take, drop, slice_index, Option, Some, None, if◌then◌else◌, is_none}
 use Rattle.std.specs.List.{list_any}
 use Rattle.globs.specs.Matching.{Sections, is_slash, matches, matches_part, sections_of}
 use Rattle.globs.specs.Paths.{folder_name, without_end_space}

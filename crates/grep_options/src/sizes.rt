@@ -1,10 +1,10 @@
 //! Sizes of files, as options give them.
 ghost use Rattle.std.specs.Prelude.{◌≡◌};
-ghost use Rattle.grep_options.specs.Sizes.{digits_from, is_decimal, number_of, size_of, unit_of, with_digit};
+ghost use Rattle.grep_options.specs.Sizes.{digits_from, is_decimal, number_of, size_of, size_unit, add_decimal};
 
 /// What the last letter of a size multiplies its number by, if it is one.
-fn unit_of(byte: u8) -> Option<u64>
-    ensures { result ≡ unit_of byte }
+fn size_unit(byte: u8) -> Option<u64>
+    ensures { result ≡ size_unit byte }
 {
     match byte {
         b'K' => Some(0x400),
@@ -21,8 +21,8 @@ fn is_decimal(byte: u8) -> bool
 }
 
 /// The number with one more digit, if this byte is one and the number has 64 bits.
-fn with_digit(number: u64, byte: u8) -> Option<u64>
-    ensures { result ≡ with_digit number byte }
+fn add_decimal(number: u64, byte: u8) -> Option<u64>
+    ensures { result ≡ add_decimal number byte }
 {
     if !is_decimal(byte) {
         return None;
@@ -37,7 +37,7 @@ fn digits_from(start: u64, digits: &[u8]) -> Option<u64>
 {
     let mut number = start;
     for byte in digits {
-        number = with_digit(number, *byte)?;
+        number = add_decimal(number, *byte)?;
     }
     Some(number)
 }
@@ -60,7 +60,7 @@ pub fn size_of(text: &str) -> Option<u64>
         return None;
     }
     let last = text.len() - 1;
-    match unit_of(text[last]) {
+    match size_unit(text[last]) {
         Some(unit) => {
             let number = number_of(&text[..last])?;
             number.checked_mul(unit)

@@ -4,8 +4,9 @@ use Rattle.clap.specs.declared.parser.matches.Found.{Found}
 use Rattle.grep_options.specs.Options.{is_set}
 use Rattle.hirgrep_main.specs.declared.selecting_files.Ignoring.{Ignoring}
 
--- What the options say of the ignore files of folders: whether any is read, whether `.ignore` and `.rgignore` are, git's, of these
--- `.git/info/exclude`, and those of the folders above those that are searched, and whether git's count in its work trees alone.
+-- What the options say of the ignore files of folders: whether any is read, whether `.ignore` and `.rgignore` are, and whether git's are,
+-- with `.git/info/exclude`. Then, whether those of the folders above those that are searched are read, and whether git's count in its work
+-- trees alone.
 abbrev pub ignoring_given : Found → Ignoring
 ignoring_given f = record {
   reads = is_set f (codes "ignore");

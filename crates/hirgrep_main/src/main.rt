@@ -43,7 +43,7 @@ use crate::patterns::{gives_patterns, lines_of, patterns_of};
 use crate::searching::{Files, search};
 use crate::selecting_files::{Selection, selection_of};
 use crate::texts::GivenTexts;
-use crate::type_changes::{changes_types, types_given};
+use crate::type_changes::{changes_types, types_changed};
 use clap::ArgMatches;
 use grep_options::{command, is_set, with_numbers};
 use std::alloc::AllocError;
@@ -153,7 +153,7 @@ fn run_asked(
     if !changes_types(matches) {
         return run_typed(rt, asked, &TYPES, matches);
     }
-    match types_given(rt, &TYPES, matches)? {
+    match types_changed(rt, &TYPES, matches)? {
         Some(types) => run_typed(rt, asked, &types, matches),
         None => Ok(Outcome::failure()),
     }
@@ -161,7 +161,7 @@ fn run_asked(
 
 /// Prints the types of files, and returns the exit status.
 fn print_types(rt: &HostRuntime, matches: &ArgMatches<'_>) -> Result<u8, AllocError> {
-    let Some(types) = types_given(rt, &TYPES, matches)? else {
+    let Some(types) = types_changed(rt, &TYPES, matches)? else {
         return Ok(2);
     };
     let text = list_of_types(rt.alloc(), &types)?;

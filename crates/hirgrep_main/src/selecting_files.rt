@@ -427,7 +427,7 @@ fn gives_size(rt: &HostRuntime, matches: &ArgMatches<'_>) -> bool
 
 /// The files of `--ignore-file`, unless they don't count.
 fn ignore_files<'m>(matches: &'m ArgMatches<'_>) -> &'m [&'m str]
-    ensures { map (λ n. n.now) result.now ≡ ignore_files (found_of matches.entry.now) }
+    ensures { map (λ n. n.now) result.now ≡ ignore_files (found_of matches.now) }
 {
     if is_set(matches, "no-ignore-files") {
         return &[];

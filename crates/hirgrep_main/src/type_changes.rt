@@ -4,8 +4,8 @@ ghost use Rattle.std.specs.Str.{bytes_eq};
 ghost use Rattle.clap.specs.Words.{found_of};
 ghost use Rattle.hirgrep_main.specs.FileTypes.{of_type, row_of, rows_of};
 ghost use Rattle.hirgrep_main.specs.Selecting.{are_types};
-ghost use Rattle.hirgrep_main.specs.TypeChanges.{are_definitions, changes_types, end_of, fields, gives_definitions, is_cleared, is_definition, kept, may_be_added};
-ghost use Rattle.hirgrep_main.specs.TypeChanges.{may_be_named, may_include, names_in, rows_of_types, types_given, with_definition, with_definitions, with_row, with_rows};
+ghost use Rattle.hirgrep_main.specs.TypeChanges.{are_definitions, changes_types, end_of, colon_parts, gives_definitions, is_cleared, is_definition, types_kept, may_be_added};
+ghost use Rattle.hirgrep_main.specs.TypeChanges.{may_be_named, may_include, names_in, rows_of_types, types_changed, with_definition, with_definitions, with_row, with_rows};
 
 use crate::file_types::{is_of, is_type};
 use crate::shown::Shown;
@@ -18,9 +18,7 @@ use std::rt::Runtime;
 pub fn changes_types(matches: &ArgMatches<'_>) -> bool
     ensures { result ≡ changes_types (found_of matches.now) }
 {
-    let added = matches.get_strs("type-add").unwrap_or(&[]);
-    let cleared = matches.get_strs("type-clear").unwrap_or(&[]);
-    !added.is_empty() || !cleared.is_empty()
+    matches.get_str("type-add").is_some() || matches.get_str("type-clear").is_some()
 }
 
 fn is_row_of(row: &(&str, &str), name: &str) -> bool
@@ -42,12 +40,12 @@ fn is_cleared(names: &[&str], row: &(&str, &str)) -> bool
 }
 
 /// The rows that aren't of these types.
-fn kept<'a>(
+fn types_kept<'a>(
     alloc: Global,
     types: &[(&'a str, &'a str)],
     names: &[&str],
 ) -> Result<Vec<(&'a str, &'a str)>, AllocError>
-    ensures { IfOk result (λ v. rows_of v.items ≡ kept (map (λ n. n.now) names.now) (rows_of types.now)) }
+    ensures { IfOk result (λ v. rows_of v.items ≡ types_kept (map (λ n. n.now) names.now) (rows_of types.now)) }
 {
     let mut rows = Vec::new(alloc);
     for row in types {
@@ -97,8 +95,8 @@ fn push_rows<'a>(
 }
 
 /// The parts of a definition, between its colons.
-fn fields<'a>(alloc: Global, text: &'a str) -> Result<Vec<&'a str>, AllocError>
-    ensures { IfOk result (λ v. map (λ s. s.now) v.items ≡ fields text.now) }
+fn colon_parts<'a>(alloc: Global, text: &'a str) -> Result<Vec<&'a str>, AllocError>
+    ensures { IfOk result (λ v. map (λ s. s.now) v.items ≡ colon_parts text.now) }
 {
     let mut parts = Vec::new(alloc);
     for part in text.split(':') {
@@ -230,10 +228,10 @@ fn add<'a>(
     rows: &mut Vec<(&'a str, &'a str)>,
     text: &'a str,
 ) -> Result<bool, AllocError>
-    ensures is { IfOk result (λ is. is ≡ is_definition (rows_of rows.old.items) (fields text.now)) }
-    ensures rows { IfOk result (λ is. is ≡ true → rows_of rows.new.items ≡ with_definition (rows_of rows.old.items) (fields text.now)) }
+    ensures is { IfOk result (λ is. is ≡ is_definition (rows_of rows.old.items) (colon_parts text.now)) }
+    ensures rows { IfOk result (λ is. is ≡ true → rows_of rows.new.items ≡ with_definition (rows_of rows.old.items) (colon_parts text.now)) }
 {
-    let parts = fields(alloc, text)?;
+    let parts = colon_parts(alloc, text)?;
     match parts.as_slice() {
         [name, glob] => add_glob(alloc, rows, name, glob),
         [name, word, list] => add_types(alloc, rows, name, word, list),
@@ -264,16 +262,16 @@ fn add_all<'a>(
 }
 
 /// The types as options change them. Returns none after reporting a definition that can't be read.
-pub fn types_given<'a>(
+pub fn types_changed<'a>(
     rt: &HostRuntime,
     types: &[(&'a str, &'a str)],
     matches: &ArgMatches<'a>,
 ) -> Result<Option<Vec<(&'a str, &'a str)>>, AllocError>
-    ensures some { IfOk result (λ o. IfSome o (λ v. rows_of v.items ≡ types_given (found_of matches.now) (rows_of types.now))) }
+    ensures some { IfOk result (λ o. IfSome o (λ v. rows_of v.items ≡ types_changed (found_of matches.now) (rows_of types.now))) }
     ensures is { IfOk result (λ o. is_some o ≡ gives_definitions (found_of matches.now) (rows_of types.now)) }
 {
     let cleared = matches.get_strs("type-clear").unwrap_or(&[]);
-    let mut rows = kept(rt.alloc(), types, cleared)?;
+    let mut rows = types_kept(rt.alloc(), types, cleared)?;
     let added = matches.get_strs("type-add").unwrap_or(&[]);
     if !add_all(rt, &mut rows, added)? {
         return Ok(None);
