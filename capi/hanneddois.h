@@ -154,7 +154,9 @@ enum {
     HANNEDDOIS_SHRINK = 1 << 13,
     /* hanneddois_new makes what finds the groups of all patterns, instead of the first search that needs it. If it can't
        be made, hanneddois_new fails. */
-    HANNEDDOIS_GROUPS = 1 << 14
+    HANNEDDOIS_GROUPS = 1 << 14,
+    /* For hanneddois_streams_new: streams search each line of their input by itself. hanneddois_new ignores it. */
+    HANNEDDOIS_STREAM_LINES = 1 << 15
 };
 
 /* Options of hanneddois_new. Most callers want all of them 0. Only the flags from HANNEDDOIS_CASE_INSENSITIVE to
@@ -375,6 +377,11 @@ size_t hanneddois_clear_count(hanneddois_regex *regex);
  * An end is known once the byte after it is read, since looks, as $ and \b, see that byte. The ends at the end of the
  * input are known when the stream is closed. What is reported never depends on where pieces are cut, or on other streams.
  *
+ * With HANNEDDOIS_STREAM_LINES each line of the input is a haystack of its own: ^ and $ are the start and the end of the
+ * line, and no match goes beyond it. A line feed ends a line and is no part of it. After the last line feed there is a line
+ * only if a byte follows. Offsets are those of the whole input. The ends at the end of a line are known once its line feed
+ * is read, and those of the last line when the stream is closed. A carriage return before a line feed is part of the line.
+ *
  * A hanneddois_streams holds an automaton, a cache and streams, which are known by their numbers. The rules for
  * hanneddois_regex hold for it: it begins as HANNEDDOIS_EMPTY, and calls with the same one, with any of its streams, don't
  * run at the same time. It stays on one thread.
@@ -394,7 +401,8 @@ typedef struct hanneddois_end {
  * HANNEDDOIS_EMPTY_LOOP: a pattern such as (a*)* is accepted. A pattern with a Unicode word boundary, as \b or \B, is
  * rejected: HANNEDDOIS_WORD_BOUNDARY. Write (?-u:\b), or use HANNEDDOIS_NO_UNICODE. The flags HANNEDDOIS_EMPTY_LOOPS,
  * HANNEDDOIS_MATCHING_PATTERNS, HANNEDDOIS_SHRINK and HANNEDDOIS_GROUPS have no effect. With HANNEDDOIS_UTF8 the input of
- * each stream has to be UTF-8 as a whole, which isn't checked: if it isn't, ends may split characters.
+ * each stream has to be UTF-8 as a whole, which isn't checked: if it isn't, ends may split characters. All streams of the set
+ * search lines if HANNEDDOIS_STREAM_LINES is set, and none otherwise.
  *
  * Returns HANNEDDOIS_OK, and *streams is the new set; or an error, and *streams is empty. What *streams held before is freed
  * in both cases.

@@ -57,7 +57,8 @@ enum class flag : std::uint32_t {
     raise_capacity = HANNEDDOIS_RAISE_CAPACITY,
     no_byte_classes = HANNEDDOIS_NO_BYTE_CLASSES,
     shrink = HANNEDDOIS_SHRINK,
-    groups = HANNEDDOIS_GROUPS
+    groups = HANNEDDOIS_GROUPS,
+    stream_lines = HANNEDDOIS_STREAM_LINES
 };
 
 constexpr flag operator|(flag a, flag b) noexcept
@@ -1007,6 +1008,9 @@ struct shared_streams {
  * all patterns, also if matches overlap, offsets ascending, each pair once. It doesn't report where matches start. An end is
  * known once the byte after it was fed, or when the stream is closed. What is reported doesn't depend on where the input is
  * cut, or on other streams. Streams of one set are used by one thread at a time.
+ *
+ * Of a set with flag::stream_lines it searches each line of its input by itself: ^ and $ are the start and the end of the
+ * line, and no match goes beyond it. A line feed ends a line and is no part of it. Offsets are those of the whole input.
  */
 class stream {
 public:

@@ -92,8 +92,10 @@ static void refusals(void)
     options.flags = 1u << 20;
     CHECK(make(&regex, "ab\xff", &options) == HANNEDDOIS_BAD_ARGUMENT && error.start == 0 && regex.inside == NULL);
     CHECK(make(&regex, "a(b", &options) == HANNEDDOIS_BAD_ARGUMENT && error.cause == 0);
-    options.flags = 1u << 15;
+    options.flags = 1u << 16;
     CHECK(make(&regex, "a", &options) == HANNEDDOIS_BAD_ARGUMENT);
+    options.flags = HANNEDDOIS_STREAM_LINES;
+    CHECK(make(&regex, "a\nb", &options) == HANNEDDOIS_OK && hanneddois_is_match(&regex, bytes("a\nb"), 3, &error) == HANNEDDOIS_OK);
     options.flags = 0;
     size_t too_long[2] = {1, 2}, too_short[2] = {1, 1};
     CHECK(hanneddois_new(&regex, bytes("\xff*"), 2, too_long, 2, &options, &error) == HANNEDDOIS_BAD_ARGUMENT && error.start == 0);

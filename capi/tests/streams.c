@@ -107,6 +107,19 @@ static void cuts(void)
     CHECK(reports("\\Aab\n", 0, "abcdef", "0:2 "));
 }
 
+/* Each line is searched by itself. */
+static void lines(void)
+{
+    CHECK(reports("^b$\n", HANNEDDOIS_STREAM_LINES, "b\nab\nb", "0:1 0:6 "));
+    CHECK(reports("^b\nb$\n", HANNEDDOIS_STREAM_LINES, "b\nab\nb", "0:1 1:1 1:4 0:6 1:6 "));
+    CHECK(reports("^$\n", HANNEDDOIS_STREAM_LINES, "\n\na\n", "0:0 0:1 "));
+    CHECK(reports("^$\n", HANNEDDOIS_STREAM_LINES, "", ""));
+    CHECK(reports("a+\n[^z]b\n\\s\n", HANNEDDOIS_STREAM_LINES, "aa\nb\r\n", "0:1 0:2 2:5 "));
+    CHECK(reports("\\Aab\n", HANNEDDOIS_STREAM_LINES, "abab\nab", "0:2 0:7 "));
+    CHECK(reports("a$\n", HANNEDDOIS_STREAM_LINES | HANNEDDOIS_MULTI_LINE | HANNEDDOIS_CRLF, "a\r\na", "0:1 0:4 "));
+    CHECK(reports("\n", HANNEDDOIS_STREAM_LINES | HANNEDDOIS_UTF8, "\303\244\n\303\244", "0:0 0:2 0:3 0:5 "));
+}
+
 static void misuse(void)
 {
     hanneddois_streams streams = HANNEDDOIS_EMPTY;
@@ -182,27 +195,41 @@ static size_t throw_to(size_t end)
     return (dice >> 8) % end;
 }
 
-static void write_ends(char *told, const hanneddois_end *ends, size_t count)
+static void write_ends(char *told, const hanneddois_end *ends, size_t count, size_t from)
 {
     for (size_t i = 0; i < count; i++)
-        sprintf(told + strlen(told), "%zu:%zu ", ends[i].pattern, ends[i].end);
+        sprintf(told + strlen(told), "%zu:%zu ", ends[i].pattern, from + ends[i].end);
 }
 
-/* What one call over the whole input reports, in a set that is made anew. */
-static void whole(const char *texts, uint32_t flags, const char *input, size_t length, char *told)
+/* What one call over the bytes of an input from this offset on reports, in a set that is made anew. */
+static void whole(const char *texts, uint32_t flags, const char *input, size_t from, size_t length, char *told)
 {
     hanneddois_streams streams = HANNEDDOIS_EMPTY;
     static hanneddois_end ends[1000];
     size_t stream, taken, count;
     CHECK(make(&streams, texts, HANNEDDOIS_RAISE_CAPACITY | flags) == HANNEDDOIS_OK && hanneddois_stream_new(&streams, &stream) == HANNEDDOIS_OK);
-    CHECK(hanneddois_stream_feed(&streams, stream, bytes(input), length, ends, 1000, &taken, &count, &error) == HANNEDDOIS_OK && taken == length);
-    write_ends(told, ends, count);
+    CHECK(hanneddois_stream_feed(&streams, stream, bytes(input + from), length, ends, 1000, &taken, &count, &error) == HANNEDDOIS_OK && taken == length);
+    write_ends(told, ends, count, from);
     CHECK(hanneddois_stream_close(&streams, stream, ends, 1000, &count, &error) == HANNEDDOIS_OK);
-    write_ends(told, ends, count);
+    write_ends(told, ends, count, from);
     hanneddois_streams_free(&streams);
 }
 
-/* Random inputs in random pieces, fed to streams in random turns, over a cache of the least capacity: each reports what one call does. */
+/* What each line of an input reports that is searched by itself, as a whole. */
+static void each_line(const char *texts, uint32_t flags, const char *input, size_t length, char *told)
+{
+    size_t begin = 0;
+    for (size_t at = 0; at < length; at++)
+        if (input[at] == '\n') {
+            whole(texts, flags, input, begin, at - begin, told);
+            begin = at + 1;
+        }
+    if (begin < length)
+        whole(texts, flags, input, begin, length - begin, told);
+}
+
+/* Random inputs in random pieces, fed to streams in random turns, over a cache of the least capacity: each reports what one call does, or one
+   call for each line. */
 static void random_turns(const char *texts, uint32_t flags, const char *letters)
 {
     enum { STREAMS = 12, LENGTH = 60, ROOM = 8000 };
@@ -234,7 +261,10 @@ static void random_turns(const char *texts, uint32_t flags, const char *letters)
     for (size_t i = 0; i < STREAMS; i++) {
         wanted[0] = '\0';
         CHECK(finish(&streams, numbers[i], told[i]));
-        whole(texts, flags, inputs[i], LENGTH, wanted);
+        if (flags & HANNEDDOIS_STREAM_LINES)
+            each_line(texts, flags & ~(uint32_t)HANNEDDOIS_STREAM_LINES, inputs[i], LENGTH, wanted);
+        else
+            whole(texts, flags, inputs[i], 0, LENGTH, wanted);
         CHECK(strcmp(told[i], wanted) == 0);
     }
     hanneddois_streams_free(&streams);
@@ -246,6 +276,8 @@ static void turns(void)
         random_turns("ab+\n[a-c]b\n(?-u:\\b)b\nc$\n", 0, "aabbc ");
         random_turns("^a+$\nb\\n\n(?:a|ba)*b\n", HANNEDDOIS_MULTI_LINE, "ab\n");
         random_turns("[a-c]{4}d\n\\Bc\n", HANNEDDOIS_NO_UNICODE, "abcd -");
+        random_turns("^a+$\nb[^c]\n(?:a|ba)*b\n$\n", HANNEDDOIS_STREAM_LINES, "ab\n");
+        random_turns("ab+\n\\Aa\n(?-u:\\b)b\n[^a]$\n", HANNEDDOIS_STREAM_LINES, "aabb c\n");
     }
     random_turns("[^a]b\n(?-u:\\xff)\n", 0, "ab\303\244\377");
     random_turns("\n.\n", HANNEDDOIS_UTF8, "ab~ ");
@@ -254,6 +286,7 @@ static void turns(void)
 int main(void)
 {
     cuts();
+    lines();
     turns();
     misuse();
     many();

@@ -498,6 +498,21 @@ static void streams_report_ends()
     CHECK(kept.feed(std::string(3000, 'a')).size() == 2999 && kept.position() == 3000);
 }
 
+static void streams_of_lines()
+{
+    hanneddois::stream_set set({"^b", "b$"}, flag::stream_lines);
+    const std::string_view input = "b\nab\n\nb";
+    for (std::size_t i = 0; i <= input.size(); i++) {
+        hanneddois::stream first = set.open();
+        std::string told = told_of(first.feed(input.substr(0, i)));
+        hanneddois::stream second = first.clone();
+        first.feed("b\n");
+        told += told_of(second.feed(input.substr(i)));
+        told += told_of(second.close());
+        CHECK(told == "0:1 1:1 1:4 0:7 1:7 " && second.position() == input.size());
+    }
+}
+
 static void streams_may_fail()
 {
     CHECK_THROWS(hanneddois::stream_set("a\\bb"), error.status() == status::word_boundary && error.pattern() == 0);
@@ -545,6 +560,7 @@ int main(int argc, char **argv)
     different_regexes_serve_different_threads();
     allocations_may_fail();
     streams_report_ends();
+    streams_of_lines();
     streams_may_fail();
     CHECK(hanneddois::version() == HANNEDDOIS_VERSION);
     return failed;

@@ -1,10 +1,11 @@
-"""Prints where matches end in input that comes in pieces, as soon as that is known: examples/stream/follow [-f] -e PATTERN.. [FILE]
+"""Prints where matches end in input that comes in pieces, as soon as that is known: examples/stream/follow [-f] [-l] -e PATTERN.. [FILE]
 
     examples/stream/follow -f -e ERROR -e '[0-9]+ ms' app.log
     some-program | examples/stream/follow -e ERROR
 
 Each line is `PATTERN:OFFSET`: the number of a pattern, counted from 0, and the offset in bytes at which a match of it ends. Without a FILE it
-reads standard input. With -f it goes on after the end of the file, and waits for what is appended, until it is interrupted.
+reads standard input. With -f it goes on after the end of the file, and waits for what is appended, until it is interrupted. With -l each line is
+searched by itself.
 
 A match is found wherever the input is cut: nothing of it is kept but the state of one automaton. An end is known once the byte after it was
 read, or at the end of the input.
@@ -44,6 +45,7 @@ def report(pairs):
 def parse_arguments():
     parser = argparse.ArgumentParser(prog="examples/stream/follow", description="Print where matches end, as soon as that is known.")
     parser.add_argument("-f", action="store_true", dest="follows", help="wait for what is appended to the file")
+    parser.add_argument("-l", "--lines", action="store_true", help="search each line by itself: ^ and $ are its start and its end")
     parser.add_argument("-e", action="append", dest="patterns", metavar="PATTERN", required=True, help="a pattern; may be given several times")
     parser.add_argument("file", nargs="?", metavar="FILE", help="the file that is read; standard input without one")
     return parser.parse_args()
@@ -52,7 +54,7 @@ def parse_arguments():
 def main():
     arguments = parse_arguments()
     try:
-        stream = hanneddois.Regex(arguments.patterns, hanneddois.EMPTY_LOOPS).stream()
+        stream = hanneddois.Regex(arguments.patterns, hanneddois.EMPTY_LOOPS).stream(lines=arguments.lines)
         descriptor = sys.stdin.fileno() if arguments.file is None else os.open(arguments.file, os.O_RDONLY)
     except (OSError, hanneddois.Error) as error:
         sys.exit(f"examples/stream/follow: {error}")

@@ -106,11 +106,12 @@ class Regex(Matcher):
         capacity, size_limit = _as_number("capacity", capacity, 63), _as_number("size_limit", size_limit, 63)
         return super().__new__(cls, patterns, encoded, flags, capacity, size_limit, nest_limit)
 
-    def stream(self):
-        """Returns a new Stream: a search of input that comes in pieces. All of a regex share an automaton and its cache.
+    def stream(self, lines=False):
+        """Returns a new Stream: a search of input that comes in pieces. All of a regex share an automaton and its cache. With lines=True each
+        line of the input is searched by itself, and those that are share another one.
 
         Raises Error if a pattern has a Unicode word boundary, as \\b or \\B: write (?-u:\\b), or use NO_UNICODE."""
-        return Stream(_streams_of(self))
+        return Stream(_streams_of(self, lines))
 
     which = Matcher.matching_patterns  # the name in version 0.2
 

@@ -3,7 +3,7 @@
 import threading
 import weakref
 
-from ._common import RAISE_CAPACITY, Error, count_characters
+from ._common import RAISE_CAPACITY, STREAM_LINES, Error, count_characters
 
 # How many bytes `scan` asks for at once.
 _PIECE = 1 << 16
@@ -24,9 +24,9 @@ class _Streams:
 
     __slots__ = ("set", "lock")
 
-    def __init__(self, regex):
+    def __init__(self, regex, lines):
         self.lock = threading.RLock()
-        flags = regex.flags | (0 if regex.capacity else RAISE_CAPACITY)
+        flags = regex.flags & ~STREAM_LINES | (STREAM_LINES if lines else 0) | (0 if regex.capacity else RAISE_CAPACITY)
         encoded = tuple(it.encode() if isinstance(it, str) else bytes(it) for it in regex.patterns)
         try:
             self.set = _make_set(encoded, flags, regex.capacity, regex.size_limit, regex.nest_limit)
@@ -35,18 +35,19 @@ class _Streams:
             raise
 
 
-# The streams of each regex that has some.
-_made: "weakref.WeakKeyDictionary" = weakref.WeakKeyDictionary()
+# The streams of each regex that has some: those that search their whole input, and those that search lines.
+_made: "tuple[weakref.WeakKeyDictionary, weakref.WeakKeyDictionary]" = (weakref.WeakKeyDictionary(), weakref.WeakKeyDictionary())
 # Taken to make the streams of a regex, so that two threads don't make them twice.
 _making = threading.RLock()
 
 
-def streams_of(regex):
+def streams_of(regex, lines):
     """Returns the streams of a regex, which are made when they are first needed. Equal regexes share them."""
+    kept = _made[bool(lines)]
     with _making:
-        made = _made.get(regex)
+        made = kept.get(regex)
         if made is None:
-            made = _made[regex] = _Streams(regex)
+            made = kept[regex] = _Streams(regex, lines)
         return made
 
 
@@ -56,6 +57,9 @@ class Stream:
     It finds the ends of matches: pairs of the number of a pattern and an offset in bytes from the begin of the input, such that the pattern
     matches a part of the input that ends there. All patterns are searched for, also if matches overlap. Offsets ascend, and no pair comes
     twice. An end is known once the byte after it was fed, or when the stream is closed. What is found doesn't depend on where the input is cut.
+
+    If it is made with lines=True, each line is searched by itself: ^ and $ are the start and the end of the line, and no match goes beyond it.
+    A line feed ends a line and is no part of it. Offsets are those of the whole input.
     """
 
     __slots__ = ("__weakref__", "_streams", "_number", "_position")

@@ -770,6 +770,31 @@ class Streams(unittest.TestCase):
                 self.assertEqual(stream.position, len(self.INPUT))
                 self.assertEqual(pairs + stream.close(), self.PAIRS)
 
+    def test_lines(self):
+        """Each line is searched by itself, wherever the input is cut."""
+        regex, text = self.regex(), b"ab b\n\nxabb\nb"
+        wanted, offset = [], 0
+        for line in text.splitlines(keepends=True):
+            stream = regex.stream()
+            found = stream.feed(line.rstrip(b"\n")) + stream.close()
+            wanted += [(pattern, offset + end) for pattern, end in found]
+            offset += len(line)
+        self.assertEqual(wanted, [(0, 2), (1, 4), (2, 4), (2, 5), (0, 9), (0, 10), (2, 10), (1, 12), (2, 12)])
+        for i in range(len(text) + 1):
+            for j in range(i, len(text) + 1):
+                stream = regex.stream(lines=True)
+                found = stream.feed(text[:i])
+                other = stream.copy()
+                stream.feed(b"ab\n")
+                found += other.feed(text[i:j]) + other.feed(text[j:]) + other.close()
+                self.assertEqual((found, other.position), (wanted, len(text)))
+        self.assertEqual(list(regex.stream(lines=True).scan([text[:6], text[6:]])), wanted)
+        self.assertEqual(list(regex.stream(lines=True).scan([])), [])
+        stream = regex.stream(lines=True)
+        self.assertRaises(hanneddois.Error, lambda: (stream.close(), stream.feed(b"\n")))
+        stream.reset()
+        self.assertEqual(stream.feed(b"a\n" * 100_000), [(2, end) for end in range(1, 200_000, 2)])
+
     def test_copies(self):
         stream = self.regex().stream()
         first = stream.feed(self.INPUT[:3])

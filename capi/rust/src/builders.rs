@@ -185,6 +185,25 @@ impl RegexBuilder {
         StreamSet::of(&self.0.patterns, &self.0.options)
     }
 
+    /// Whether streams search each line of their input by itself. Then `^` and `$` are the start and the end of the line, and no
+    /// match goes beyond it. A line feed ends a line and is no part of it. Offsets are those of the whole input.
+    ///
+    /// ```
+    /// # fn main() -> Result<(), hanneddois::Error> {
+    /// let set = hanneddois::RegexBuilder::new("^[0-9]+$").stream_lines(true).build_streams()?;
+    /// let mut stream = set.open()?;
+    /// let mut ends = stream.feed(b"12\na3\n4")?;
+    /// ends.extend(stream.close()?);
+    /// let offsets: Vec<_> = ends.iter().map(|it| it.end()).collect();
+    /// assert_eq!(offsets, [2, 7]);
+    /// # Ok(())
+    /// # }
+    /// ```
+    pub fn stream_lines(&mut self, yes: bool) -> &mut Self {
+        self.0.set(sys::STREAM_LINES, yes);
+        self
+    }
+
     options!();
 
     /// Whether the automaton that [`Regex::matching_patterns`] needs is made at once, instead of by its first call.

@@ -181,6 +181,8 @@ impl fmt::Debug for StreamSet {
 /// all patterns, also if matches overlap, offsets ascending, each pair once. It doesn't report where matches start. An end is
 /// known once the byte after it was fed, or when the stream is closed. What is reported doesn't depend on where the input is
 /// cut, or on other streams. Threads may use different streams of a set at the same time, and wait for each other then.
+///
+/// With [`stream_lines`](RegexBuilder::stream_lines) each line of the input is searched by itself.
 pub struct Stream {
     set: Arc<Mutex<Inside>>,
     number: usize,

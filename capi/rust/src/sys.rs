@@ -31,6 +31,7 @@ pub(crate) const MATCHING_PATTERNS: u32 = 1 << 10;
 pub(crate) const RAISE_CAPACITY: u32 = 1 << 11;
 pub(crate) const NO_BYTE_CLASSES: u32 = 1 << 12;
 pub(crate) const SHRINK: u32 = 1 << 13;
+pub(crate) const STREAM_LINES: u32 = 1 << 15;
 
 pub(crate) const LITERAL: u32 = 1 << 0;
 

@@ -26,6 +26,25 @@ fn cuts_make_no_difference() {
 }
 
 #[test]
+fn lines_are_searched_by_themselves() {
+    let set = RegexBuilder::new_many(["^b", "b$"]).stream_lines(true).build_streams().unwrap();
+    let input = b"b\nab\n\nb";
+    for i in 0..=input.len() {
+        for j in i..=input.len() {
+            let mut stream = set.open().unwrap();
+            let mut ends = stream.feed(&input[..i]).unwrap();
+            let mut other = stream.try_clone().unwrap();
+            stream.feed(b"b\n").unwrap();
+            ends.extend(other.feed(&input[i..j]).unwrap());
+            other.feed_each(&input[j..], |end| ends.push(end)).unwrap();
+            ends.extend(other.close().unwrap());
+            assert_eq!(pairs(ends), [(0, 1), (1, 1), (1, 4), (0, 7), (1, 7)]);
+            assert_eq!(other.position(), input.len());
+        }
+    }
+}
+
+#[test]
 fn a_closed_stream_takes_bytes_after_a_reset() {
     let mut stream = StreamSet::new(["a+"]).unwrap().open().unwrap();
     assert_eq!(pairs(stream.feed(b"aab").unwrap()), [(0, 1), (0, 2)]);

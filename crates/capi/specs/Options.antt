@@ -12,9 +12,9 @@ use Rattle.capi.specs.declared.options.Options.{Options}
 abbrev pub is_flag_set : ℕ → ℕ → Bool
 is_flag_set flags flag = nat_eq (flags / flag % 2) 1
 
--- There are fifteen flags.
+-- There are sixteen flags.
 abbrev pub has_known_flags : Options → Bool
-has_known_flags o = nat_lt o.flags 32768
+has_known_flags o = nat_lt o.flags 65536
 
 abbrev pub allows_empty_loops : Options → Bool
 allows_empty_loops o = is_flag_set o.flags 512
@@ -22,6 +22,10 @@ allows_empty_loops o = is_flag_set o.flags 512
 -- What finds the groups of matches is made together with the regex.
 abbrev pub asks_groups : Options → Bool
 asks_groups o = is_flag_set o.flags 16384
+
+-- Streams search each line of their input by itself.
+abbrev pub reads_lines : Options → Bool
+reads_lines o = is_flag_set o.flags 32768
 
 abbrev pub nest_limit_of : Options → ℕ
 nest_limit_of o = if nat_eq o.nest_limit 0 then 250 else o.nest_limit

@@ -8,7 +8,7 @@ use Rattle.stream_regex.specs.declared.errors.NewError.TheVariants.{NoMemory, Te
 use Rattle.stream_regex.specs.declared.options.Options as stream
 use Rattle.capi.specs.Compiled.{IsSplitError, are_arguments}
 use Rattle.capi.specs.Failures.{failure_of_build, failure_of_new, failure_of_text, plain, without_cause}
-use Rattle.capi.specs.Options.{options_of}
+use Rattle.capi.specs.Options.{options_of, reads_lines}
 use Rattle.capi.specs.Texts.{cut}
 use Rattle.capi.specs.declared.failure.Failure.{Failure}
 use Rattle.capi.specs.declared.failure.NewError.{NewError}
@@ -22,6 +22,7 @@ stream_options_of o = record {
   skip_cache_capacity_check = (options_of o).skip_cache_capacity_check;
   size_limit = (options_of o).size_limit;
   cache_capacity = (options_of o).cache_capacity;
+  lines = reads_lines o;
 }
 
 -- Why no set of streams is made of patterns. A Unicode word boundary has the status 10, and the number of its pattern.

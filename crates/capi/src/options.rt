@@ -3,7 +3,7 @@ ghost use Rattle.std.specs.Prelude.{◌≡◌, ◌<◌, if◌then◌else◌, nat
 ghost use Rattle.search_types.specs.declared.match_kind.MatchKind.{MatchKind};
 ghost use Rattle.meta_regex.specs.Options.{config_of, settings_of as settings_of_engine};
 ghost use Rattle.capi.specs.Options.{is_flag_set, has_known_flags, config_of_options, nest_limit_of, allows_empty_loops};
-ghost use Rattle.capi.specs.Options.{asks_groups, options_of, settings_of, size_limit_of};
+ghost use Rattle.capi.specs.Options.{asks_groups, options_of, reads_lines, settings_of, size_limit_of};
 
 use pattern_text::Config;
 
@@ -37,7 +37,9 @@ const SHRINK: u32 = 8192;
 
 const GROUPS: u32 = 16384;
 
-const FLAGS_END: u32 = 32768;
+const STREAM_LINES: u32 = 32768;
+
+const FLAGS_END: u32 = 65536;
 
 const NEST_LIMIT: u32 = 250;
 
@@ -89,6 +91,13 @@ impl Options {
         ensures { result ≡ asks_groups self.now }
     {
         self.has(GROUPS)
+    }
+
+    /// Whether streams search each line of their input by itself.
+    pub fn reads_lines(&self) -> bool
+        ensures { result ≡ reads_lines self.now }
+    {
+        self.has(STREAM_LINES)
     }
 
     fn nest_limit(&self) -> u32

@@ -1,6 +1,6 @@
 //! Streams for callers from outside: a set of them over patterns, with options and errors as numbers.
-ghost use Rattle.std.specs.Prelude.{◌≡◌, ◌<◌, [], IfErr, IfOk};
-ghost use Rattle.stream_regex.specs.StreamRegexes.{IsStreamRegexOf};
+ghost use Rattle.std.specs.Prelude.{◌≡◌, ◌<◌, IfErr, IfOk};
+ghost use Rattle.stream_regex.specs.Sets.{IsNewSet};
 ghost use Rattle.capi.specs.Failures.{without_cause};
 ghost use Rattle.capi.specs.Streams.{IsStreamsFailure, failure_of_set, failure_of_stream, stream_options_of};
 ghost use Rattle.capi.specs.Texts.{cut};
@@ -26,6 +26,7 @@ fn stream_options(options: &Options) -> stream_regex::Options
         skip_cache_capacity_check: engine.skip_cache_capacity_check,
         size_limit: engine.size_limit,
         cache_capacity: engine.cache_capacity,
+        lines: options.reads_lines(),
     }
 }
 
@@ -52,7 +53,7 @@ pub fn streams_of(
     lengths: &[usize],
     options: &Options,
 ) -> Result<StreamSet, Failure>
-    ensures made { IfOk result (λ v. IsStreamRegexOf (stream_options_of options.now) (cut lengths.now texts.now) v.dfa × (v.streams ≡ [])) }
+    ensures made { IfOk result (IsNewSet (stream_options_of options.now) (cut lengths.now texts.now)) }
     ensures refused { IfErr result (IsStreamsFailure options.now lengths.now texts.now) }
     ensures fails { IfErr result (λ f. 0 < f.status) }
 {

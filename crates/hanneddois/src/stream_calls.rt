@@ -1,8 +1,8 @@
 //! The calls with streams: searches of input that comes in pieces.
 //!
 //! A handle holds a set of streams over one automaton and one cache. A stream of it is known by its number.
-ghost use Rattle.std.specs.Prelude.{◌≡◌, ◌≢◌, ◌<◌, [], Some, None, IfSome, IfErr, IfOk, false};
-ghost use Rattle.stream_regex.specs.StreamRegexes.{IsStreamRegexOf};
+ghost use Rattle.std.specs.Prelude.{◌≡◌, ◌≢◌, ◌<◌, Some, None, IfSome, IfErr, IfOk, false};
+ghost use Rattle.stream_regex.specs.Sets.{IsNewSet};
 ghost use Rattle.streams.specs.Streams.{fresh_stream};
 ghost use Rattle.capi.specs.Compiled.{are_arguments};
 ghost use Rattle.capi.specs.Failures.{plain};
@@ -25,8 +25,7 @@ fn made(
     lengths: &[usize],
     options: &Options,
 ) -> Result<Box<StreamSet>, Failure>
-    ensures made { IfOk result (λ b. IsStreamRegexOf (stream_options_of options.now) (cut lengths.now texts.now) b.value.dfa
-        × (b.value.streams ≡ [])) }
+    ensures made { IfOk result (λ b. IsNewSet (stream_options_of options.now) (cut lengths.now texts.now) b.value) }
     ensures refused { IfErr result (IsStreamsFailure options.now lengths.now texts.now) }
     ensures fails { IfErr result (λ f. 0 < f.status) }
 {
@@ -64,8 +63,7 @@ pub extern "C" fn hanneddois_streams_new(
 ) -> u32
     ensures reported { error.new.status ≡ result }
     ensures holds { result ≡ 0 → streams.new.value ≢ None }
-    ensures made { IfSome streams.new.value (λ v. IsStreamRegexOf (stream_options_of options.now) (cut lengths.now texts.now) v.dfa
-        × (v.streams ≡ [])) }
+    ensures made { IfSome streams.new.value (IsNewSet (stream_options_of options.now) (cut lengths.now texts.now)) }
     ensures empty { result ≢ 0 → streams.new.value ≡ None }
     ensures plain { result ≡ 0 → error.new ≡ plain 0 }
     ensures argument { are_arguments options.now lengths.now texts.now ≡ false → error.new ≡ plain 2 }
@@ -162,7 +160,7 @@ pub extern "C" fn hanneddois_stream_clone(
     }
 }
 
-/// Feeds a piece to the stream with a number. Writes how many of its bytes were taken, and how many ends were written to the first rows. The
+/// Feeds a piece to the stream with a number, which reads lines if the set was made with that flag. Writes how many of its bytes were taken, and how many ends were written to the first rows. The
 /// status is 0, or an error:
 ///
 /// - 2: there is no such stream, or the handle is empty.

@@ -1,3 +1,4 @@
 mod BuiltLemmas
 mod MeaningLemmas
 mod SetLemmas
+mod LineMeaningLemmas

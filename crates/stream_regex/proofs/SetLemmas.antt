@@ -4,12 +4,11 @@ use Rattle.std.specs.Prelude.{IfSome, ⊤}
 use Rattle.std.proofs.lemmas.List.Elements.{All-set}
 use Rattle.std.proofs.lemmas.Option.{none-some}
 use Rattle.lazy_dfa.specs.Dfas.{Dfa}
-use Rattle.streams.specs.Feeding.{IsStreamClosed}
 use Rattle.streams.specs.Streams.{IsStreamOf}
 use Rattle.streams.specs.declared.errors.StreamError.{StreamError}
 use Rattle.streams.specs.declared.stream.Stream.{Stream}
 use Rattle.streams.specs.declared.stream.StreamMatch.{StreamMatch}
-use Rattle.stream_regex.specs.Sets.{AreStreamsOf, IsClosedAt, IsSetAt, SetValue, stream_at}
+use Rattle.stream_regex.specs.Sets.{AreStreamsOf, IsClosedAt, IsClosedIn, IsSetAt, SetValue, stream_at}
 
 abbrev Streams : Type 0
 Streams = List (Option Stream)
@@ -32,27 +31,29 @@ set_twice (x ∷ xs) zero o p = refl
 set_twice (x ∷ xs) (suc n) o p = ap (λ ys. x ∷ ys) (set_twice xs n o p)
 
 -- one stream was replaced, or removed
-pub set_at : (old new : SetValue) (n : ℕ) (s : Stream) (o : Option Stream) → new.dfa ≡ old.dfa → stream_at old.streams n ≡ Some s →
+pub set_at : (old new : SetValue) (n : ℕ) (s : Stream) (o : Option Stream) → new.dfa ≡ old.dfa → new.lines ≡ old.lines → stream_at old.streams n ≡ Some s →
     new.streams ≡ slice_set old.streams n o → IsSetAt old new n o
-set_at old new n s o dfa is set = record {
+set_at old new n s o dfa lines is set = record {
   dfa = dfa;
+  lines = lines;
   there = ap (λ xs. stream_at xs n) set ∙ set_there old.streams n s o is;
   others = λ m apart. ap (λ xs. stream_at xs m) set ∙ set_other old.streams n m o apart;
 }
 
 -- one was taken out, and another one put there
-pub put_back : (old new : SetValue) (n : ℕ) (s t : Stream) (mid : Streams) → new.dfa ≡ old.dfa → stream_at old.streams n ≡ Some s →
+pub put_back : (old new : SetValue) (n : ℕ) (s t : Stream) (mid : Streams) → new.dfa ≡ old.dfa → new.lines ≡ old.lines → stream_at old.streams n ≡ Some s →
     mid ≡ slice_set old.streams n None → new.streams ≡ slice_set mid n (Some t) → IsSetAt old new n (Some t)
-put_back old new n s t mid dfa is out in_again =
-    set_at old new n s (Some t) dfa is (in_again ∙ ap (λ xs. slice_set xs n (Some t)) out ∙ set_twice old.streams n None (Some t))
+put_back old new n s t mid dfa lines is out in_again =
+    set_at old new n s (Some t) dfa lines is (in_again ∙ ap (λ xs. slice_set xs n (Some t)) out ∙ set_twice old.streams n None (Some t))
 
-pub changed_back : (old new : SetValue) (n : ℕ) (s t : Stream) (mid : Streams) → new.dfa ≡ old.dfa → stream_at old.streams n ≡ Some s →
+pub changed_back : (old new : SetValue) (n : ℕ) (s t : Stream) (mid : Streams) → new.dfa ≡ old.dfa → new.lines ≡ old.lines → stream_at old.streams n ≡ Some s →
     mid ≡ slice_set old.streams n None → new.streams ≡ slice_set mid n (Some t) → (stream_at old.streams n ≢ None) × IsSetAt old new n (Some t)
-changed_back old new n s t mid dfa is out in_again = (λ none. none-some s (sym none ∙ is), put_back old new n s t mid dfa is out in_again)
+changed_back old new n s t mid dfa lines is out in_again =
+    (λ none. none-some s (sym none ∙ is), put_back old new n s t mid dfa lines is out in_again)
 
-pub taken_out : (old new : SetValue) (n : ℕ) (s : Stream) → new.dfa ≡ old.dfa → stream_at old.streams n ≡ Some s →
+pub taken_out : (old new : SetValue) (n : ℕ) (s : Stream) → new.dfa ≡ old.dfa → new.lines ≡ old.lines → stream_at old.streams n ≡ Some s →
     new.streams ≡ slice_set old.streams n None → (stream_at old.streams n ≢ None) × IsSetAt old new n None
-taken_out old new n s dfa is out = (λ none. none-some s (sym none ∙ is), set_at old new n s None dfa is out)
+taken_out old new n s dfa lines is out = (λ none. none-some s (sym none ∙ is), set_at old new n s None dfa lines is out)
 
 -- all are still streams of the automaton
 pub kept_streams : (d : Dfa) (xs ys zs : Streams) (n : ℕ) (t : Stream) → AreStreamsOf d xs → IsStreamOf d t → ys ≡ slice_set xs n None →
@@ -62,12 +63,12 @@ kept_streams d xs ys zs n t all own out in_again =
     (subst (λ (l : Streams). AreStreamsOf d l) (sym out) (All-set (λ (o : Option Stream). IfSome o (IsStreamOf d)) xs n None tt all)))
 
 pub closed_at : (old new : SetValue) (n : ℕ) (s t : Stream) (mid : Streams) (rows after : List StreamMatch) (count : ℕ)
-    (r : Result ⊤ StreamError) → new.dfa ≡ old.dfa → stream_at old.streams n ≡ Some s → mid ≡ slice_set old.streams n None →
-    new.streams ≡ slice_set mid n (Some t) → IsStreamClosed old.dfa s t rows after count r → IsClosedAt old new n rows after count r
-closed_at old new n s t mid rows after count r dfa is out in_again closed = record {
+    (r : Result ⊤ StreamError) → new.dfa ≡ old.dfa → new.lines ≡ old.lines → stream_at old.streams n ≡ Some s → mid ≡ slice_set old.streams n None →
+    new.streams ≡ slice_set mid n (Some t) → IsClosedIn old.lines old.dfa s t rows after count r → IsClosedAt old new n rows after count r
+closed_at old new n s t mid rows after count r dfa lines is out in_again closed = record {
   before = s;
   is = is;
   now = t;
-  set = put_back old new n s t mid dfa is out in_again;
+  set = put_back old new n s t mid dfa lines is out in_again;
   closed = closed;
 }

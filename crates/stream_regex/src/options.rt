@@ -20,6 +20,8 @@ pub struct Options {
     pub size_limit: Option<usize>,
     /// How many bytes the cache may take; `None` means the default of [`lazy_dfa`].
     pub cache_capacity: Option<usize>,
+    /// Whether the streams of a set search each line of their input by itself. A line feed ends a line.
+    pub lines: bool,
 }
 
 impl Options {

@@ -1,7 +1,7 @@
 //! Many streams over one automaton and one cache.
 ghost use Rattle.std.specs.Prelude.{◌≡◌, [], IfErr, IfOk, map};
-ghost use Rattle.stream_regex.specs.Sets.{SetValue};
-ghost use Rattle.stream_regex.specs.StreamRegexes.{IsNewError, IsStreamRegexOf};
+ghost use Rattle.stream_regex.specs.Sets.{IsNewSet, SetValue};
+ghost use Rattle.stream_regex.specs.StreamRegexes.{IsNewError};
 
 use crate::errors::NewError;
 use crate::options::Options;
@@ -20,6 +20,8 @@ pub struct StreamSet {
     pub(crate) streams: Vec<Option<Stream>>,
     /// Numbers that no stream has.
     pub(crate) free: Vec<usize>,
+    /// Whether each line of the input is searched by itself.
+    pub(crate) lines: bool,
 }
 
 impl Model for StreamSet {
@@ -28,14 +30,14 @@ impl Model for StreamSet {
 
     ghost Value = { SetValue };
 
-    ghost view = { λ s. record { dfa = s.regex; streams = s.streams.items } };
+    ghost view = { λ s. record { dfa = s.regex; streams = s.streams.items; lines = s.lines } };
 
     ghost invariant = { λ s. IsCacheOf s.regex s.cache × AreStreamsOf s.regex s.streams.items };
 }
 
 /// A set of no streams, over a regex.
-fn set_of(alloc: Global, regex: StreamRegex) -> Result<StreamSet, AllocError>
-    ensures { IfOk result (λ v. v ≡ record { dfa = regex; streams = [] }) }
+fn set_of(alloc: Global, regex: StreamRegex, lines: bool) -> Result<StreamSet, AllocError>
+    ensures { IfOk result (λ v. v ≡ record { dfa = regex; streams = []; lines = lines }) }
 {
     let cache = regex.create_cache(alloc)?;
     Ok(StreamSet {
@@ -43,20 +45,21 @@ fn set_of(alloc: Global, regex: StreamRegex) -> Result<StreamSet, AllocError>
         cache,
         streams: Vec::new(alloc),
         free: Vec::new(alloc),
+        lines,
     })
 }
 
 impl StreamSet {
     /// Makes a set of no streams over patterns.
     pub fn new(alloc: Global, texts: &[&str], options: &Options) -> Result<StreamSet, NewError>
-        ensures made { IfOk result (λ v. IsStreamRegexOf options.now (map (λ t. t.now) texts.now) v.dfa × (v.streams ≡ [])) }
+        ensures made { IfOk result (IsNewSet options.now (map (λ t. t.now) texts.now)) }
         ensures refused { IfErr result (IsNewError options.now (map (λ t. t.now) texts.now)) }
     {
         let regex = match StreamRegex::new(alloc, texts, options) {
             Ok(regex) => regex,
             Err(e) => return Err(e),
         };
-        match set_of(alloc, regex) {
+        match set_of(alloc, regex, options.lines) {
             Ok(set) => Ok(set),
             Err(_) => Err(NewError::NoMemory),
         }

@@ -1,9 +1,11 @@
 //! Calls with a stream of a set.
 ghost use Rattle.std.specs.Prelude.{◌≡◌, ◌<◌, ℕ, IfErr, IfOk, IfSome, None, Some, length, option_map, slice_set, true};
+ghost use Rattle.lazy_dfa.specs.Caches.{IsCacheOf};
 ghost use Rattle.streams.specs.Streams.{IsStreamOf, fresh_stream};
-ghost use Rattle.stream_regex.specs.Sets.{ChangesAt, ClosesAt, CopiesAt, FeedsAt, IsAdded, IsSameSet, stream_at};
+ghost use Rattle.stream_regex.specs.Sets.{ChangesAt, ClosesAt, CopiesAt, FeedsAt, IsAdded, IsClosedIn, IsFedIn, IsSameSet, stream_at};
 
 use crate::set::StreamSet;
+use lazy_dfa::dfa::{Cache, DFA};
 use std::alloc::AllocError;
 use std::mem;
 use streams::{Fed, Stream, StreamError, StreamMatch};
@@ -63,6 +65,52 @@ fn note(free: &mut Vec<usize>, number: usize) {
     }
 }
 
+/// What ends a line.
+const LINE_FEED: u8 = 10;
+
+/// Feeds a stream, line by line or not.
+fn feed_in(
+    lines: bool,
+    dfa: &DFA,
+    cache: &mut Cache,
+    stream: &mut Stream,
+    bytes: &[u8],
+    rows: &mut [StreamMatch],
+) -> (Fed, Result<(), StreamError>)
+    requires own { IsCacheOf dfa.now cache.old }
+    requires stream { IsStreamOf dfa.now stream.old }
+    ensures own { IsCacheOf dfa.now cache.new }
+    ensures stream { IsStreamOf dfa.now stream.new }
+    ensures fed { IsFedIn lines dfa.now stream.old stream.new bytes.now rows.old rows.new result.0 result.1 }
+{
+    if lines {
+        stream.feed_lines(dfa, cache, LINE_FEED, bytes, rows)
+    } else {
+        stream.feed(dfa, cache, bytes, rows)
+    }
+}
+
+/// Closes a stream whose input was read line by line or not.
+fn close_in(
+    lines: bool,
+    dfa: &DFA,
+    cache: &mut Cache,
+    stream: &mut Stream,
+    rows: &mut [StreamMatch],
+) -> (usize, Result<(), StreamError>)
+    requires own { IsCacheOf dfa.now cache.old }
+    requires stream { IsStreamOf dfa.now stream.old }
+    ensures own { IsCacheOf dfa.now cache.new }
+    ensures stream { IsStreamOf dfa.now stream.new }
+    ensures closed { IsClosedIn lines dfa.now stream.old stream.new rows.old rows.new result.0 result.1 }
+{
+    if lines {
+        stream.close_lines(dfa, cache, rows)
+    } else {
+        stream.close(dfa, cache, rows)
+    }
+}
+
 impl StreamSet {
     /// Gives a stream a number that no other one has.
     fn add(&mut self, stream: Stream) -> Result<usize, AllocError>
@@ -116,7 +164,8 @@ impl StreamSet {
         }
     }
 
-    /// Feeds a piece to the stream with a number, as [`Stream::feed`] does. `None`: no stream has that number, and nothing changed.
+    /// Feeds a piece to the stream with a number, as [`Stream::feed`] does, or [`Stream::feed_lines`] if the set reads lines. `None`: no stream has
+    /// that number, and nothing changed.
     pub fn feed(
         &mut self,
         number: usize,
@@ -128,12 +177,20 @@ impl StreamSet {
         let Some(mut stream) = take_at(&mut self.streams, number) else {
             return None;
         };
-        let (fed, result) = stream.feed(self.regex.automaton(), &mut self.cache, bytes, rows);
+        let (fed, result) = feed_in(
+            self.lines,
+            self.regex.automaton(),
+            &mut self.cache,
+            &mut stream,
+            bytes,
+            rows,
+        );
         put_at(&mut self.streams, number, stream);
         Some((fed, result))
     }
 
-    /// Closes the stream with a number, as [`Stream::close`] does. `None`: no stream has that number, and nothing changed.
+    /// Closes the stream with a number, as [`Stream::close`] does, or [`Stream::close_lines`] if the set reads lines. `None`: no stream has that
+    /// number, and nothing changed.
     pub fn close(
         &mut self,
         number: usize,
@@ -144,7 +201,13 @@ impl StreamSet {
         let Some(mut stream) = take_at(&mut self.streams, number) else {
             return None;
         };
-        let (count, result) = stream.close(self.regex.automaton(), &mut self.cache, rows);
+        let (count, result) = close_in(
+            self.lines,
+            self.regex.automaton(),
+            &mut self.cache,
+            &mut stream,
+            rows,
+        );
         put_at(&mut self.streams, number, stream);
         Some((count, result))
     }

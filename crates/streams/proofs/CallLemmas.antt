@@ -128,7 +128,7 @@ outcome_err : (o : Option StreamError) (P Q : StreamError → Type 0) → ((e : 
 outcome_err None P Q f x = tt
 outcome_err (Some e) P Q f x = f e x
 
-open_quiet : (p : Point) → IsOpenPoint p → is_failed p ≡ false
+pub open_quiet : (p : Point) → IsOpenPoint p → is_failed p ≡ false
 open_quiet Fresh o = refl
 open_quiet (Within s) o = refl
 open_quiet Dead o = refl

@@ -7,3 +7,6 @@ pub mod FeedLemmas
 pub mod PieceLemmas
 pub mod CallLemmas
 pub mod OverlapLemmas
+mod LineLemmas
+mod LineCallLemmas
+mod LineLawLemmas

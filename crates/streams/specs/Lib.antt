@@ -3,3 +3,5 @@ pub mod Errors
 pub mod Reading
 pub mod Feeding
 pub mod Overlapping
+pub mod Lines
+pub mod LineCalls

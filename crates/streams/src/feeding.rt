@@ -132,7 +132,7 @@ fn outcome(error: Option<StreamError>) -> Result<(), StreamError>
 
 impl Stream {
     /// Why the stream takes no bytes, whatever these are.
-    fn check(&self, n: usize) -> Result<(), StreamError>
+    pub(crate) fn check(&self, n: usize) -> Result<(), StreamError>
         ensures ok { IfOk result (λ _. IsOpenPoint self.now.point × (self.now.offset + n ≤ 0xFFFF_FFFF_FFFF_FFFF)) }
         ensures err { (d : Dfa) → IfErr result (IsStreamError d self.now self.now n) }
     {

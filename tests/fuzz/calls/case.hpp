@@ -38,7 +38,7 @@ struct Case {
 };
 
 // The flags of the header.
-constexpr uint32_t ALL_FLAGS = (1u << 15) - 1;
+constexpr uint32_t ALL_FLAGS = (1u << 16) - 1;
 
 // HANNEDDOIS_SHRINK takes a million allocations for a Unicode class, so it is used for classes of ASCII alone.
 inline uint32_t cheap(uint32_t flags) {

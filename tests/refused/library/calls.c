@@ -80,6 +80,7 @@ static const struct made ALL[] = {
     {"caches of the least size", "[a-z]+[0-9]{3}q|r", {14, 3}, 2, {HANNEDDOIS_RAISE_CAPACITY | HANNEDDOIS_NO_BYTE_CLASSES, 0, 1, 0}, HAYSTACK("abc123 xyz456 q r abc789 zzz000 mnop111")},
     {"shared states", "[\\x{3B1}-\\x{3C9}a-f]+$", {22}, 1, {HANNEDDOIS_SHRINK | HANNEDDOIS_MULTI_LINE, 0, 0, 0}, HAYSTACK("\xCE\xB1\xCE\xB2 abc\nfff\nx")},
     {"groups", "(a+)(?:-(b))?(?<name>[c-e])*x(y|z)", {28, 6}, 2, {HANNEDDOIS_GROUPS, 0, 0, 0}, HAYSTACK("aa-bcde xy a xz")},
+    {"lines of streams", "^[a-c]+$b\\z", {8, 3}, 2, {HANNEDDOIS_STREAM_LINES | HANNEDDOIS_RAISE_CAPACITY, 0, 1, 0}, HAYSTACK("ab\n\nxb\nabc")},
     {"four patterns", "^abb+c[cd]e$", {3, 2, 5, 2}, 4, {HANNEDDOIS_CRLF | HANNEDDOIS_MULTI_LINE, 0, 0, 0}, HAYSTACK("abbb\r\ncdde\r\n")},
 };
 #define COUNT (sizeof ALL / sizeof ALL[0])

@@ -15,8 +15,8 @@ invariant_of-self-2 c = (
 pub returns : goal.returns
 returns c =
     subst (λ (v : SetValue). (stream_at v.streams c.args.number ≢ None) × IsSetAt v
-    (record { dfa = c.self.inside.regex; streams = c.put_at.new.streams.items }) c.args.number (Some fresh_stream)) c.self.view_is
-    (changed_back (record { dfa = c.self.inside.regex; streams = c.self.inside.streams.items })
-    (record { dfa = c.self.inside.regex; streams = c.put_at.new.streams.items }) c.args.number c.in-Some.field-0 fresh_stream
-    c.take_at.new.streams.items refl (sym c.take_at.ensures.taken ∙ c.in-Some.is) c.take_at.ensures.left
+    (record { dfa = c.self.inside.regex; streams = c.put_at.new.streams.items; lines = c.self.inside.lines }) c.args.number (Some fresh_stream)) c.self.view_is
+    (changed_back (record { dfa = c.self.inside.regex; streams = c.self.inside.streams.items; lines = c.self.inside.lines })
+    (record { dfa = c.self.inside.regex; streams = c.put_at.new.streams.items; lines = c.self.inside.lines }) c.args.number c.in-Some.field-0 fresh_stream
+    c.take_at.new.streams.items refl refl (sym c.take_at.ensures.taken ∙ c.in-Some.is) c.take_at.ensures.left
     (c.put_at.ensures ∙ ap (λ (s : Stream). slice_set c.take_at.new.streams.items c.args.number (Some s)) c.new.ensures.is))
