@@ -18,6 +18,7 @@ mod grep_colors;
 mod ignoring;
 mod input;
 mod input_report;
+mod listing;
 mod loops;
 mod messages;
 mod outcome;

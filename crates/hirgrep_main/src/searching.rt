@@ -22,10 +22,12 @@ use crate::counting::Counting;
 use crate::ignoring::IgnoreFiles;
 use crate::input::input;
 use crate::input_report::report_one;
+use crate::listing::list_file;
 use crate::messages::{Causes, report_no_finder};
 use crate::outcome::Outcome;
 use crate::output::Output;
 use crate::selecting_files::Selection;
+use crate::shown::hides_controls;
 use crate::smart_case::ignores_case;
 use crate::task::{Task, shown_name};
 use crate::texts::separated_name;
@@ -35,7 +37,7 @@ use grep_core::{
     config_of, needs_spans, pattern_source,
 };
 use std::alloc::{AllocError, Global};
-use std::io::{Read, Write};
+use std::io::{IsTerminal, Read, Write};
 use std::rt::Runtime;
 use std::{fs, io};
 
@@ -219,46 +221,6 @@ fn search_input(rt: &HostRuntime, finder: &mut Finder<'_>, task: Task<'_>, outco
     }
     let width = width_at(rt, &task.asked.what, "/dev/stdin");
     search_aligned(rt, finder, task, outcome, name, width, Ok(reader));
-}
-
-/// Writes the name of a file and what ends it, unless nothing is printed.
-fn write_name<W: Write>(print: Print, name: &str, end: char, writer: &mut W) -> Result<u64, Fault>
-    ensures one { IfOk result (λ n. n ≡ 1) }
-{
-    if print == Print::Nothing {
-        return Ok(1);
-    }
-    match write!(writer, "{name}{end}") {
-        Ok(()) => Ok(1),
-        Err(e) => Err(Fault::Write(e.kind())),
-    }
-}
-
-/// Prints the name of a file, and records the outcome.
-fn list_file(rt: &HostRuntime, task: Task<'_>, outcome: &mut Outcome, name: &str)
-    ensures counted { outcome.new.files ≡ counted outcome.old.files 1 }
-    ensures continues { Continues outcome.old outcome.new }
-{
-    let mut writer = Output::new(rt.stdout());
-    let print = task.asked.what.print;
-    let end = if task.asked.what.zero_names {
-        '\0'
-    } else {
-        '\n'
-    };
-    let written = write_name(print, name, end, &mut writer);
-    outcome.keep_search(
-        rt,
-        task.asked,
-        name,
-        0,
-        writer.wrote(),
-        written,
-        Causes {
-            read: None,
-            write: writer.code(),
-        },
-    );
 }
 
 /// Searches a file under this name, or prints the name.
@@ -740,6 +702,7 @@ fn search_files(
         output: output_file(rt),
         selection: files.selection,
         width: 0,
+        hides_controls: hides_controls(rt.stdout().is_terminal(), asked.what.zero_names),
     };
     match files.names {
         [] => {
