@@ -15,7 +15,7 @@ use Rattle.grep_core.specs.Candidates.{IsLineStart}
 use Rattle.grep_core.specs.ContextPrinting.{Item}
 use Rattle.grep_core.specs.Lines.{SplitLine, numbered, split_lines}
 use Rattle.grep_core.specs.Skipping.{AreWhole, MaySkip, SkipsTo, held_of}
-use Rattle.grep_core.specs.Report.{LineMatcher, after_hidden, count_line, is_wanted}
+use Rattle.grep_core.specs.Report.{LineMatcher, after_hidden, count_line, is_wanted, shown_of}
 use Rattle.grep_core.specs.Selecting.{count_selected, limited}
 use Rattle.grep_core.specs.Reporting.{flags_after, left_of, matches_in, number_of, prints_lines, reported_lines, reported_item, shown}
 use Rattle.grep_core.proofs.BlockLemmas.{is_feed}
@@ -32,15 +32,15 @@ flags_same : (w : OutputOptions) (f : LineMatcher) (n i k j l : ℕ) (lines : Li
     flags_after w f n (numbered i k lines) ≡ flags_after w f n (numbered j l lines)
 flags_same w f n i k j l lines = ap (limited (left_of w.most n)) (wanted_same w f i k j l lines)
 
-matches_same : (f : LineMatcher) (i k j l : ℕ) (flags : List Bool) (lines : List SplitLine) →
-    matches_in flags (map (reported_item f) (numbered i k lines)) ≡ matches_in flags (map (reported_item f) (numbered j l lines))
-matches_same f i k j l [] lines = refl
-matches_same f i k j l (flag ∷ flags) [] = refl
-matches_same f i k j l (true ∷ flags) (line ∷ lines) =
-    ap (λ m. length (f.spans line) + m)
-    (matches_same f (i + 1) (k + length line.bytes + 1) (j + 1) (l + length line.bytes + 1) flags lines)
-matches_same f i k j l (false ∷ flags) (line ∷ lines) =
-    matches_same f (i + 1) (k + length line.bytes + 1) (j + 1) (l + length line.bytes + 1) flags lines
+matches_same : (w : OutputOptions) (f : LineMatcher) (i k j l : ℕ) (flags : List Bool) (lines : List SplitLine) →
+    matches_in flags (map (reported_item w f) (numbered i k lines)) ≡ matches_in flags (map (reported_item w f) (numbered j l lines))
+matches_same w f i k j l [] lines = refl
+matches_same w f i k j l (flag ∷ flags) [] = refl
+matches_same w f i k j l (true ∷ flags) (line ∷ lines) =
+    ap (λ m. length ((shown_of w f line).spans) + m)
+    (matches_same w f (i + 1) (k + length line.bytes + 1) (j + 1) (l + length line.bytes + 1) flags lines)
+matches_same w f i k j l (false ∷ flags) (line ∷ lines) =
+    matches_same w f (i + 1) (k + length line.bytes + 1) (j + 1) (l + length line.bytes + 1) flags lines
 
 unprinted : (print : Print) (w : OutputOptions) (name : List ℕ) (with_name : Bool) (c : ContextPrinter) (n : ℕ) (flags : List Bool)
     (items also : List Item) →
@@ -62,12 +62,12 @@ module _ (t : Task) (f : LineMatcher) (number place : ℕ) (c : Reporter) where
       reported_bytes t f (at i k) lines ≡ reported_bytes t f (at j l) lines
   told_same i k j l lines none =
       ap (λ flags. reported_lines t.what.now.print t.what.now t.name.now t.with_name c.course (number_of t.what.now.print c) flags
-      (map (reported_item f) (numbered i k lines)))
+      (map (reported_item t.what.now f) (numbered i k lines)))
       (flags_same t.what.now f c.count i k j l lines)
       ∙ unprinted t.what.now.print t.what.now t.name.now t.with_name c.course (number_of t.what.now.print c)
       (flags_after t.what.now f c.count (numbered j l lines))
-      (map (reported_item f) (numbered i k lines)) (map (reported_item f) (numbered j l lines)) none
-      (matches_same f i k j l (flags_after t.what.now f c.count (numbered j l lines)) lines)
+      (map (reported_item t.what.now f) (numbered i k lines)) (map (reported_item t.what.now f) (numbered j l lines)) none
+      (matches_same t.what.now f i k j l (flags_after t.what.now f c.count (numbered j l lines)) lines)
 
   counted_same : (i k j l : ℕ) (lines : List SplitLine) → counts_lines t f (at i k) lines ≡ counts_lines t f (at j l) lines
   counted_same i k j l lines = ap (λ flags. c.count + count_selected flags) (flags_same t.what.now f c.count i k j l lines)

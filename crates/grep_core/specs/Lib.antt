@@ -2,6 +2,7 @@ pub mod Lines
 pub mod Selecting
 pub mod Printing
 pub mod Report
+pub mod Replacing
 pub mod Patterns
 pub mod Searchers
 pub mod ContextPrinting
@@ -10,6 +11,7 @@ pub mod Headings
 pub mod Blocks
 pub mod Skipping
 pub mod Fallbacks
+pub mod Groups
 pub mod Meant
 pub mod Bounded
 pub mod Joined

@@ -19,6 +19,7 @@ use Rattle.grep_core.specs.declared.searcher.SearcherError.{SearcherError}
 use Rattle.grep_core.specs.declared.searcher.SearcherError.TheVariants.{Text, EmptyLoop, Build}
 use Rattle.grep_core.specs.Report.{LineMatcher}
 use Rattle.grep_core.specs.Patterns.{finds_of, has_match_in, spans_in}
+use Rattle.grep_core.specs.Replacing.{all_names, replaced_spans, replaced_text}
 
 -- The settings for searching lines, which may be any bytes.
 abbrev pub line_settings : Settings
@@ -49,6 +50,11 @@ IsMatchReported how texts line reported = (res : List Re) → AreReadAs (line_co
 abbrev pub AreReported : PatternOptions → List (List ℕ) → List ℕ → List (ℕ × ℕ) → Type 0
 AreReported how texts line reported = (res : List Re) → AreReadAs (line_config how) texts res → reported ≡ spans_in how res line
 
+-- The line was replaced by these bytes, and what was written for its matches has these spans, for the patterns as they are parsed.
+pub record AreReplaced (how : PatternOptions) (texts : List (List ℕ)) (template line bytes : List ℕ) (spans : List (ℕ × ℕ)) : Type 0 where
+  pub bytes_are : (res : List Re) → AreReadAs (line_config how) texts res → bytes ≡ replaced_text how (all_names how texts) res template line
+  pub spans_are : (res : List Re) → AreReadAs (line_config how) texts res → spans ≡ replaced_spans how (all_names how texts) res template line
+
 -- Why a search of the line fails. Either memory ran out, or the error is that of a search by the regex from some offset of the line.
 abbrev pub IsLineError : Pair → List ℕ → MatchErrorKind → Type 0
 IsLineError p line e = (e ≡ LacksMemory) ⊎ ((at : ℕ) × (c : PairCache) × AnswersPair p c (whole_search line at) (Err e))
@@ -68,7 +74,7 @@ pub record SearchesFor (s : Sought) (spans : Bool) : Type 0 where
   pub are_read : AreReadAs (line_config how) s.texts patterns
 
 abbrev pub found_by : {s : Sought} {spans : Bool} → SearchesFor s spans → LineMatcher
-found_by by = finds_of by.how by.patterns
+found_by {s} by = finds_of by.how (all_names by.how s.texts) by.patterns
 
 -- Why no searcher is built from patterns. With `Text`, this is the first pattern that can't be parsed. With `EmptyLoop`, matches are asked
 -- for, and this is the first pattern with an empty loop. With `Build`, no regex can be built from the one tree of the patterns, or memory

@@ -13,7 +13,7 @@ use crate::fault::Fault;
 use crate::feeds::feed_at;
 use crate::finder::Finder;
 use crate::line::Line;
-use crate::looking::look_at;
+use crate::looking::{look_at, shown_bytes};
 use crate::passing::skip_lines;
 use crate::progress::{Progress, Task, pass};
 use crate::reporter::report_line;
@@ -47,7 +47,7 @@ pub(crate) fn report_one(
     let line = Line {
         number: progress.number,
         place: progress.place,
-        bytes,
+        bytes: shown_bytes(&seen.replaced, bytes),
         is_ended,
     };
     report_line(

@@ -7,6 +7,7 @@ ghost use Rattle.grep_core.specs.Searchers.{IsSearcherError};
 
 use crate::fallback::{EARLY_SIZE_LIMIT, program_of};
 use crate::parsed_patterns::ParsedPatterns;
+use crate::pattern_groups::{GROUPS_SIZE_LIMIT, PatternGroups};
 use crate::patterns::PatternOptions;
 use crate::searcher::SearcherError;
 use hir_core::Hir;
@@ -22,10 +23,11 @@ use std::marker::Model;
 pub struct LinePatterns<'t> {
     parsed: ParsedPatterns<'t>,
     program: Option<Box<Program>>,
+    groups: Option<PatternGroups<'t>>,
 }
 
 impl<'t> Model for LinePatterns<'t> {
-    ghost use Rattle.std.specs.Prelude.{IfSome, ℕ, List};
+    ghost use Rattle.std.specs.Prelude.{◌≡◌, IfSome, ℕ, List};
     ghost use Rattle.grep_core.specs.Fallbacks.{IsProgramOf};
     ghost use Rattle.grep_core.specs.declared.patterns.PatternOptions.{PatternOptions};
 
@@ -33,7 +35,7 @@ impl<'t> Model for LinePatterns<'t> {
 
     ghost view = { λ p. p.parsed };
 
-    ghost invariant = { λ p. IfSome p.program (λ it. IsProgramOf p.parsed.0 p.parsed.1 it.value) };
+    ghost invariant = { λ p. IfSome p.program (λ it. IsProgramOf p.parsed.0 p.parsed.1 it.value) × IfSome p.groups (λ g. g ≡ p.parsed) };
 }
 
 /// Whether both bytes may begin a look at words, as `\\b` does.
@@ -73,6 +75,25 @@ impl<'t> LinePatterns<'t> {
         LinePatterns {
             parsed: ParsedPatterns::new(alloc, texts, how),
             program,
+            groups: None,
+        }
+    }
+
+    /// Takes patterns whose matches are to be replaced. In any case a program is compiled that finds the groups of a match, unless it has more
+    /// than 256 MiB. If there are several patterns, one is compiled for each of them too.
+    pub fn with_groups(
+        alloc: Global,
+        texts: &'t [&'t str],
+        how: &PatternOptions,
+    ) -> LinePatterns<'t>
+        ensures { result ≡ (how.now, map (λ t. t.now) texts.now) }
+    {
+        let program = program_of(alloc, how, texts, GROUPS_SIZE_LIMIT).ok();
+        let groups = PatternGroups::new(alloc, texts, how).ok();
+        LinePatterns {
+            parsed: ParsedPatterns::new(alloc, texts, how),
+            program,
+            groups,
         }
     }
 
@@ -99,6 +120,16 @@ impl<'t> LinePatterns<'t> {
         match self.parsed.tree(with_matches) {
             Ok(tree) => Ok(tree),
             Err(e) => Err(e),
+        }
+    }
+
+    /// Their groups, if matches are to be replaced.
+    pub(crate) fn groups(&self) -> Option<&PatternGroups<'t>>
+        ensures { IfSome result (λ g. g.now ≡ self.now) }
+    {
+        match &self.groups {
+            Some(groups) => Some(groups),
+            None => None,
         }
     }
 

@@ -219,6 +219,7 @@ line_options =
     ∷ flag (codes "trim") []
     ∷ option (codes "max-columns") (codes "M") Set
     ∷ passthru_option
+    ∷ option (codes "replace") [] Set
     ∷ []
 
 -- Names above lines. Of the first two the later one takes effect.

@@ -86,7 +86,8 @@ is_awaiting_file w =
 -- one of the options on the format of what is printed, or on what is printed of files with zero bytes
 abbrev pub is_awaiting_format : List ℕ → Bool
 is_awaiting_format w =
-    bytes_eq w (codes "--group-separator") || (bytes_eq w (codes "--max-columns") || bytes_eq w (codes "--binary-files"))
+    bytes_eq w (codes "--group-separator")
+    || (bytes_eq w (codes "--max-columns") || (bytes_eq w (codes "--replace") || bytes_eq w (codes "--binary-files")))
 
 -- a long option whose value is the next word
 abbrev pub is_awaiting : List ℕ → Bool

@@ -40,6 +40,16 @@ fn push_passthru<'a>(alloc: Global, args: &mut Vec<Arg<'a>>) -> Result<(), Alloc
     push(args, arg)
 }
 
+fn push_replace<'a>(alloc: Global, args: &mut Vec<Arg<'a>>) -> Result<(), AllocError>
+    ensures { OnOk result (AddsOptions args.old.items args.new.items (option (codes "replace") [] Set ∷ [])) }
+{
+    let help =
+        "print this instead of each match; $1, $name and ${name} stand for its groups, and $$ for $";
+    let arg = option(alloc, "replace", ArgAction::Set, help);
+    let arg = arg.allow_hyphen_values(true).value_name("TEMPLATE");
+    push(args, arg)
+}
+
 /// Appends the options on which lines are printed, and how.
 fn push_lines<'a>(alloc: Global, args: &mut Vec<Arg<'a>>) -> Result<(), AllocError>
     ensures { OnOk result (AddsOptions args.old.items args.new.items line_options) }
@@ -52,7 +62,8 @@ fn push_lines<'a>(alloc: Global, args: &mut Vec<Arg<'a>>) -> Result<(), AllocErr
     let help = "leave out white space at the beginning of each line";
     push_long(alloc, args, "trim", help)?;
     push_max_columns(alloc, args)?;
-    push_passthru(alloc, args)
+    push_passthru(alloc, args)?;
+    push_replace(alloc, args)
 }
 
 /// Appends the options on names above lines.

@@ -177,7 +177,10 @@ fn is_awaiting_file(word: &str) -> bool
 fn is_awaiting_format(word: &str) -> bool
     ensures { result ≡ is_awaiting_format word.now }
 {
-    word == "--group-separator" || word == "--max-columns" || word == "--binary-files"
+    word == "--group-separator"
+        || word == "--max-columns"
+        || word == "--replace"
+        || word == "--binary-files"
 }
 
 /// Whether the word is a long option whose value is the next word.

@@ -1,10 +1,10 @@
 //! What the options ask for.
-ghost use Rattle.std.specs.Prelude.{◌≡◌, ◌||◌, codes, if◌then◌else◌, unwrap_or};
+ghost use Rattle.std.specs.Prelude.{◌≡◌, ◌||◌, codes, if◌then◌else◌, option_map, unwrap_or};
 ghost use Rattle.clap.specs.Words.{first_value, found_of};
 ghost use Rattle.grep_core.specs.Printing.{group_text};
 ghost use Rattle.grep_options.specs.Options.{is_set};
 ghost use Rattle.hirgrep_main.specs.Asks.{all_lines, asked_names, asked_of, color_of, context_by, context_of, devices_by, directories_by, how_of};
-ghost use Rattle.hirgrep_main.specs.Asks.{group_given, has_columns, has_heading, most_bytes_by, print_of, what_of};
+ghost use Rattle.hirgrep_main.specs.Asks.{group_given, has_columns, has_heading, most_bytes_by, print_of, template_given, what_of};
 
 use crate::binary::{Binary, binary_of};
 use clap::ArgMatches;
@@ -255,6 +255,16 @@ fn groups_of<'a>(matches: &ArgMatches<'a>) -> GroupSeparator<'a>
     }
 }
 
+/// The template by which matches are replaced, if it is given.
+fn template_of<'a>(matches: &ArgMatches<'a>) -> Option<&'a [u8]>
+    ensures { option_map (λ t. t.now) result ≡ template_given (found_of matches.now) }
+{
+    match matches.get_str("replace") {
+        Some(text) => Some(text.as_bytes()),
+        None => None,
+    }
+}
+
 /// Whether columns are printed.
 fn has_columns(matches: &ArgMatches<'_>) -> bool
     ensures { result ≡ has_columns (found_of matches.now) }
@@ -274,8 +284,9 @@ fn most_bytes_by(given: Option<u64>) -> Option<u64>
 
 /// What is printed for each input. The width of numbers depends on the input, and is 0 here.
 fn what_of<'a>(matches: &ArgMatches<'a>, is_colorful: bool) -> OutputOptions<'a>
-    ensures options { result ≡ what_of (found_of matches.now) is_colorful result.groups }
+    ensures options { result ≡ what_of (found_of matches.now) is_colorful result.groups result.replacement }
     ensures groups { group_text result.groups ≡ group_given (found_of matches.now) }
+    ensures replacement { option_map (λ t. t.now) result.replacement ≡ template_given (found_of matches.now) }
 {
     OutputOptions {
         invert: is_set(matches, "invert-match"),
@@ -295,13 +306,15 @@ fn what_of<'a>(matches: &ArgMatches<'a>, is_colorful: bool) -> OutputOptions<'a>
         most_bytes: most_bytes_by(number(matches, "max-columns")),
         width: 0,
         groups: groups_of(matches),
+        replacement: template_of(matches),
     }
 }
 
 /// What the options ask for. `is_colorful` says whether standard output is a terminal that supports colours.
 pub fn asked_of<'a>(matches: &ArgMatches<'a>, is_colorful: bool) -> Asked<'a>
-    ensures options { result ≡ asked_of (found_of matches.now) is_colorful result.what.groups }
+    ensures options { result ≡ asked_of (found_of matches.now) is_colorful result.what.groups result.what.replacement }
     ensures groups { group_text result.what.groups ≡ group_given (found_of matches.now) }
+    ensures replacement { option_map (λ t. t.now) result.what.replacement ≡ template_given (found_of matches.now) }
 {
     Asked {
         how: how_of(matches),
