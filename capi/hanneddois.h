@@ -85,11 +85,15 @@ enum {
     HANNEDDOIS_TOO_LARGE = 8,
     /* A cache may take fewer bytes than it needs: error.limit is how many it needs. */
     HANNEDDOIS_CAPACITY_TOO_SMALL = 9,
+    /* From hanneddois_streams_new alone: a pattern has a Unicode word boundary. error.pattern is its number. */
+    HANNEDDOIS_WORD_BOUNDARY = 10,
     /* The haystack of a regex that is made with HANNEDDOIS_UTF8 is no UTF-8: error.start is the offset of the first
        faulty byte. */
     HANNEDDOIS_HAYSTACK_NOT_UTF8 = 12,
     /* The output is longer than the room for it. The call has written its beginning, and how long it is. */
-    HANNEDDOIS_OUTPUT_TOO_SMALL = 13
+    HANNEDDOIS_OUTPUT_TOO_SMALL = 13,
+    /* A stream is closed: its end was read, and it wasn't reset since then. */
+    HANNEDDOIS_CLOSED = 14
 };
 
 /* One match: which pattern it is of, counted from 0, and where it starts and ends in the haystack. */
@@ -349,6 +353,107 @@ size_t hanneddois_memory_usage(hanneddois_regex *regex);
 
 /* How often the caches of the regex were cleared since it was made; 0 if it is empty. */
 size_t hanneddois_clear_count(hanneddois_regex *regex);
+
+/*
+ * Streams: searches of input that comes in pieces, many at once.
+ *
+ *     hanneddois_streams streams = HANNEDDOIS_EMPTY;
+ *     hanneddois_streams_new(&streams, texts, texts_length, lengths, count, &options, &error);
+ *     size_t stream, taken, found;
+ *     hanneddois_stream_new(&streams, &stream);
+ *     while (there is a piece)
+ *         do {
+ *             hanneddois_stream_feed(&streams, stream, piece, piece_length, ends, room, &taken, &found, &error);
+ *             use ends[0] .. ends[found - 1];
+ *             piece += taken, piece_length -= taken;
+ *         } while (piece_length > 0);
+ *     hanneddois_stream_close(&streams, stream, ends, room, &found, &error);
+ *     hanneddois_streams_free(&streams);
+ *
+ * A stream reports each pair of a pattern and an offset such that the pattern matches a part of its whole input that ends
+ * there: all patterns, also if matches overlap, offsets ascending, each pair once. It doesn't report where matches start.
+ * An end is known once the byte after it is read, since looks, as $ and \b, see that byte. The ends at the end of the
+ * input are known when the stream is closed. What is reported never depends on where pieces are cut, or on other streams.
+ *
+ * A hanneddois_streams holds an automaton, a cache and streams, which are known by their numbers. The rules for
+ * hanneddois_regex hold for it: it begins as HANNEDDOIS_EMPTY, and calls with the same one, with any of its streams, don't
+ * run at the same time. It stays on one thread.
+ */
+typedef struct hanneddois_streams {
+    void *inside;
+} hanneddois_streams;
+
+/* The end of a match: which pattern it is of, and the offset from the begin of the stream. */
+typedef struct hanneddois_end {
+    size_t pattern;
+    size_t end;
+} hanneddois_end;
+
+/*
+ * Makes a set of no streams over patterns, which are given as to hanneddois_new, with the same errors but for
+ * HANNEDDOIS_EMPTY_LOOP: a pattern such as (a*)* is accepted. A pattern with a Unicode word boundary, as \b or \B, is
+ * rejected: HANNEDDOIS_WORD_BOUNDARY. Write (?-u:\b), or use HANNEDDOIS_NO_UNICODE. The flags HANNEDDOIS_EMPTY_LOOPS,
+ * HANNEDDOIS_MATCHING_PATTERNS, HANNEDDOIS_SHRINK and HANNEDDOIS_GROUPS have no effect. With HANNEDDOIS_UTF8 the input of
+ * each stream has to be UTF-8 as a whole, which isn't checked: if it isn't, ends may split characters.
+ *
+ * Returns HANNEDDOIS_OK, and *streams is the new set; or an error, and *streams is empty. What *streams held before is freed
+ * in both cases.
+ */
+hanneddois_status hanneddois_streams_new(
+    hanneddois_streams *streams,
+    const uint8_t *texts, size_t texts_length,
+    const size_t *lengths, size_t count,
+    const hanneddois_options *options,
+    hanneddois_error *error);
+
+/* Frees a set with all its streams, and leaves it empty. An empty one stays so. */
+void hanneddois_streams_free(hanneddois_streams *streams);
+
+/* An estimate of how many bytes the cache of the set needs now; 0 if it is empty. A stream takes some 50 bytes more. */
+size_t hanneddois_streams_memory_usage(hanneddois_streams *streams);
+
+/* Adds a stream that has read nothing, and writes its number to *stream: HANNEDDOIS_OK. Otherwise *stream is 0, and the status
+   is HANNEDDOIS_BAD_ARGUMENT if the set is empty, or HANNEDDOIS_NO_MEMORY. */
+hanneddois_status hanneddois_stream_new(hanneddois_streams *streams, size_t *stream);
+
+/*
+ * Feeds a piece to a stream. Writes to *taken how many of its bytes were read, to `ends` the ends that these bytes decide,
+ * and to *count how many these are. Returns HANNEDDOIS_OK, or an error.
+ *
+ * The call stops before a byte if `ends` has no room for the ends that are known by it. So with HANNEDDOIS_OK and *taken below
+ * length, feed the rest. With as many rows as there are patterns, each call takes a byte at least.
+ *
+ * After an error too, *taken bytes were read and *count ends written. With HANNEDDOIS_NO_MEMORY the others can be fed again.
+ * With HANNEDDOIS_CLOSED, and HANNEDDOIS_BAD_ARGUMENT if the set is empty or has no such stream, *taken and *count are 0.
+ * Rows after the ends have no meaning.
+ */
+hanneddois_status hanneddois_stream_feed(
+    hanneddois_streams *streams, size_t stream,
+    const uint8_t *bytes, size_t length,
+    hanneddois_end *ends, size_t ends_length,
+    size_t *taken, size_t *count,
+    hanneddois_error *error);
+
+/*
+ * Reads the end of a stream's input, and writes the ends that lie there to `ends` and their number to *count. The stream is
+ * closed then: it takes no more bytes until it is reset. After an error it is as it was. With HANNEDDOIS_OUTPUT_TOO_SMALL
+ * *count is how many rows are needed; there are never more ends than patterns. After other errors *count is 0.
+ */
+hanneddois_status hanneddois_stream_close(
+    hanneddois_streams *streams, size_t stream,
+    hanneddois_end *ends, size_t ends_length,
+    size_t *count,
+    hanneddois_error *error);
+
+/* Makes a stream one that has read nothing: HANNEDDOIS_OK; or HANNEDDOIS_BAD_ARGUMENT if there is no such stream. */
+hanneddois_status hanneddois_stream_reset(hanneddois_streams *streams, size_t stream);
+
+/* Adds a copy of a stream as it is now, and writes its number to *to: HANNEDDOIS_OK. Otherwise *to is 0, and the status is
+   HANNEDDOIS_BAD_ARGUMENT if there is no such stream, or HANNEDDOIS_NO_MEMORY. */
+hanneddois_status hanneddois_stream_clone(hanneddois_streams *streams, size_t from, size_t *to);
+
+/* Removes a stream: HANNEDDOIS_OK; or HANNEDDOIS_BAD_ARGUMENT if there is none with this number. A later stream may get it. */
+hanneddois_status hanneddois_stream_free(hanneddois_streams *streams, size_t stream);
 
 /* The version of the library, as HANNEDDOIS_VERSION. */
 uint32_t hanneddois_version(void);

@@ -97,8 +97,10 @@ enum class status : hanneddois_status {
     empty_loop = HANNEDDOIS_EMPTY_LOOP,
     too_large = HANNEDDOIS_TOO_LARGE,
     capacity_too_small = HANNEDDOIS_CAPACITY_TOO_SMALL,
+    word_boundary = HANNEDDOIS_WORD_BOUNDARY,
     haystack_not_utf8 = HANNEDDOIS_HAYSTACK_NOT_UTF8,
-    output_too_small = HANNEDDOIS_OUTPUT_TOO_SMALL
+    output_too_small = HANNEDDOIS_OUTPUT_TOO_SMALL,
+    closed = HANNEDDOIS_CLOSED
 };
 
 /* Why a call failed, or that it didn't. What the numbers mean depends on the status: hanneddois.h
@@ -979,6 +981,277 @@ inline captures_range regex::captures_iter(std::string_view haystack, failure &w
 {
     return captures_range(*this, haystack, &why);
 }
+
+/* The end of a match in a stream: which pattern it is of, and its offset from the begin of the stream. */
+using stream_end = hanneddois_end;
+
+namespace detail {
+
+/* The streams of a set, with their automaton and its cache, and the rows into which ends are written. */
+struct shared_streams {
+    shared_streams() = default;
+    shared_streams(const shared_streams &) = delete;
+    shared_streams &operator=(const shared_streams &) = delete;
+    ~shared_streams() { hanneddois_streams_free(&handle); }
+
+    hanneddois_streams handle = HANNEDDOIS_EMPTY;
+    std::vector<stream_end> rows;
+};
+
+}  // namespace detail
+
+/*
+ * A search of input that comes in pieces, as stream_set::open makes it. It is moved, and copied only by clone().
+ *
+ * It reports each pair of a pattern and an offset such that the pattern matches a part of the whole input that ends there:
+ * all patterns, also if matches overlap, offsets ascending, each pair once. It doesn't report where matches start. An end is
+ * known once the byte after it was fed, or when the stream is closed. What is reported doesn't depend on where the input is
+ * cut, or on other streams. Streams of one set are used by one thread at a time.
+ */
+class stream {
+public:
+    /* Makes one of no set, with which calls fail with status::bad_argument. */
+    stream() noexcept = default;
+
+    stream(const stream &) = delete;
+    stream &operator=(const stream &) = delete;
+
+    stream(stream &&other) noexcept
+        : inside_(std::move(other.inside_)), number_(other.number_), position_(std::exchange(other.position_, 0))
+    {
+    }
+    stream &operator=(stream &&other) noexcept
+    {
+        stream moved(std::move(other));
+        std::swap(inside_, moved.inside_);
+        std::swap(number_, moved.number_);
+        std::swap(position_, moved.position_);
+        return *this;
+    }
+
+    ~stream()
+    {
+        if (inside_)
+            hanneddois_stream_free(&inside_->handle, number_);
+    }
+
+    /* Feeds a piece, and returns the ends that are known by it. If the second form fails, position() says how many bytes
+       were read, and the list has the ends that are known by these. With status::no_memory the others can be fed again. */
+    std::vector<stream_end> feed(std::string_view piece) { return feed_or(piece, nullptr); }
+    std::vector<stream_end> feed(std::string_view piece, failure &why) noexcept { return feed_or(piece, &why); }
+
+    /* Feeds a piece, and calls `on_end` with each end that is known by it. */
+    template <class Call>
+    void feed_each(std::string_view piece, Call &&on_end)
+    {
+        detail::report(feed_rows(piece, [&](const stream_end *rows, std::size_t count) {
+            std::for_each(rows, rows + count, on_end);
+        }), nullptr);
+    }
+
+    /* Ends the input, and returns the ends there. The stream takes no more bytes until it is reset. */
+    std::vector<stream_end> close() { return close_or(nullptr); }
+    std::vector<stream_end> close(failure &why) noexcept { return close_or(&why); }
+
+    /* Makes it a stream that has read nothing. */
+    void reset() noexcept
+    {
+        position_ = 0;
+        if (inside_)
+            hanneddois_stream_reset(&inside_->handle, number_);
+    }
+
+    /* A second stream that goes on from here. */
+    stream clone() { return clone_or(nullptr); }
+    stream clone(failure &why) noexcept { return clone_or(&why); }
+
+    /* How many bytes it has read. */
+    std::size_t position() const noexcept { return position_; }
+
+private:
+    friend class stream_set;
+
+    template <class Take>
+    failure feed_rows(std::string_view piece, Take &&take)
+    {
+        if (!inside_)
+            return detail::failure_of(status::bad_argument);
+        while (!piece.empty()) {
+            std::vector<stream_end> &rows = inside_->rows;
+            std::size_t taken = 0, count = 0;
+            hanneddois_error error;
+            hanneddois_stream_feed(&inside_->handle, number_, detail::bytes_of(piece), piece.size(), rows.data(), rows.size(),
+                                   &taken, &count, &error);
+            position_ += taken;
+            piece.remove_prefix(taken);
+            take(rows.data(), count);
+            if (failure(error))
+                return failure(error);
+        }
+        return failure();
+    }
+
+    /* Makes room in a list for the ends of one call, so that none is lost if memory runs out. */
+    void make_room(std::vector<stream_end> &ends) const
+    {
+        if (inside_ && ends.capacity() - ends.size() < inside_->rows.size())
+            ends.reserve(2 * ends.size() + inside_->rows.size());
+    }
+
+    std::vector<stream_end> feed_or(std::string_view piece, failure *why)
+    {
+        std::vector<stream_end> ends;
+        failure ended;
+        try {
+            make_room(ends);
+            ended = feed_rows(piece, [&](const stream_end *rows, std::size_t count) {
+                ends.insert(ends.end(), rows, rows + count);
+                make_room(ends);
+            });
+        } catch (const std::bad_alloc &) {
+            ended = detail::failure_of(status::no_memory);
+        }
+        detail::report(ended, why);
+        return ends;
+    }
+
+    std::vector<stream_end> close_or(failure *why)
+    {
+        std::vector<stream_end> ends;
+        failure ended = detail::failure_of(inside_ ? status::no_memory : status::bad_argument);
+        try {
+            make_room(ends);
+            if (inside_) {
+                std::size_t count = 0;
+                hanneddois_error error;
+                hanneddois_stream_close(&inside_->handle, number_, inside_->rows.data(), inside_->rows.size(), &count, &error);
+                ended = failure(error);
+                ends.assign(inside_->rows.data(), inside_->rows.data() + (ended ? 0 : count));
+            }
+        } catch (const std::bad_alloc &) {
+        }
+        detail::report(ended, why);
+        return ends;
+    }
+
+    stream clone_or(failure *why)
+    {
+        stream copy;
+        status ended = status::bad_argument;
+        if (inside_)
+            ended = static_cast<status>(hanneddois_stream_clone(&inside_->handle, number_, &copy.number_));
+        if (ended == status::ok) {
+            copy.inside_ = inside_;
+            copy.position_ = position_;
+        }
+        detail::report(detail::failure_of(ended), why);
+        return copy;
+    }
+
+    std::shared_ptr<detail::shared_streams> inside_;
+    std::size_t number_ = 0;
+    std::size_t position_ = 0;
+};
+
+/*
+ * Patterns for input that comes in pieces: an automaton and a cache, which any number of streams share. It lives as long as
+ * one of these. A pattern with a Unicode word boundary is rejected with status::word_boundary: write (?-u:\b), or use
+ * flag::no_unicode.
+ */
+class stream_set {
+public:
+    /* Makes an empty one, of which no stream can be made. */
+    stream_set() noexcept = default;
+
+    explicit stream_set(std::string_view pattern, const options &options = {})
+    {
+        compile(&pattern, &pattern + 1, options, nullptr);
+    }
+    stream_set(std::string_view pattern, const options &options, failure &why) noexcept
+    {
+        compile(&pattern, &pattern + 1, options, &why);
+    }
+    explicit stream_set(std::initializer_list<std::string_view> patterns, const options &options = {})
+    {
+        compile(patterns.begin(), patterns.end(), options, nullptr);
+    }
+    stream_set(std::initializer_list<std::string_view> patterns, const options &options, failure &why) noexcept
+    {
+        compile(patterns.begin(), patterns.end(), options, &why);
+    }
+    template <class Iterator, detail::if_patterns<Iterator> = 0>
+    stream_set(Iterator first, Iterator last, const options &options = {})
+    {
+        compile(first, last, options, nullptr);
+    }
+    template <class Iterator, detail::if_patterns<Iterator> = 0>
+    stream_set(Iterator first, Iterator last, const options &options, failure &why) noexcept
+    {
+        compile(first, last, options, &why);
+    }
+
+    /* A new stream, which has read nothing. */
+    stream open() { return open_or(nullptr); }
+    stream open(failure &why) noexcept { return open_or(&why); }
+
+    /* Whether it is empty. */
+    bool empty() const noexcept { return !inside_; }
+
+    /* An estimate of how many bytes the cache needs now. A stream takes some 50 bytes more. */
+    std::size_t memory_usage() noexcept { return inside_ ? hanneddois_streams_memory_usage(&inside_->handle) : 0; }
+
+private:
+    /* A call has room for so many ends, and for one of each pattern. */
+    static constexpr std::size_t least_rows = 256;
+
+    template <class Iterator>
+    void compile(Iterator first, Iterator last, const options &options, failure *why)
+    {
+        failure ended;
+        try {
+            std::string bytes;
+            std::vector<std::size_t> lengths;
+            for (; first != last; ++first) {
+                const std::string_view pattern = *first;
+                bytes += pattern;
+                lengths.push_back(pattern.size());
+            }
+            ended = make(bytes, lengths, options);
+        } catch (const std::bad_alloc &) {
+            ended = detail::failure_of(status::no_memory);
+        }
+        detail::report(ended, why);
+    }
+
+    failure make(const std::string &bytes, const std::vector<std::size_t> &lengths, const options &options)
+    {
+        const std::size_t none = 0;
+        const hanneddois_options fields = {
+            static_cast<std::uint32_t>(options.flags), options.nest_limit, options.capacity, options.size_limit};
+        hanneddois_error error;
+        std::shared_ptr<detail::shared_streams> made = std::make_shared<detail::shared_streams>();
+        made->rows.resize(std::max(lengths.size(), least_rows));
+        hanneddois_streams_new(&made->handle, detail::bytes_of(bytes), bytes.size(), lengths.empty() ? &none : lengths.data(),
+                               lengths.size(), &fields, &error);
+        if (!failure(error))
+            inside_ = std::move(made);
+        return failure(error);
+    }
+
+    stream open_or(failure *why)
+    {
+        stream opened;
+        status ended = status::bad_argument;
+        if (inside_)
+            ended = static_cast<status>(hanneddois_stream_new(&inside_->handle, &opened.number_));
+        if (ended == status::ok)
+            opened.inside_ = inside_;
+        detail::report(detail::failure_of(ended), why);
+        return opened;
+    }
+
+    std::shared_ptr<detail::shared_streams> inside_;
+};
 
 /* The version of the library, as HANNEDDOIS_VERSION of hanneddois.h. */
 inline std::uint32_t version() noexcept

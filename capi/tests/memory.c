@@ -1,5 +1,6 @@
 /* Memory: what the library holds is counted, block by block, and each allocation of each call fails in turn. Built with
    -Wl,--wrap=malloc,--wrap=realloc,--wrap=free. Prints nothing where all is well. */
+#include <malloc.h>
 #include <stdio.h>
 #include <stdlib.h>
 #include <string.h>
@@ -10,8 +11,8 @@ void *__real_malloc(size_t size);
 void *__real_realloc(void *block, size_t size);
 void __real_free(void *block);
 
-/* The blocks that are held, the allocations since the last start, and which of these fails; 0 for none. */
-static size_t held, asked, fails_at, failed;
+/* The blocks that are held and their bytes, the allocations since the last start, and which of these fails; 0 for none. */
+static size_t held, held_bytes, asked, fails_at, failed;
 
 static int fails(void)
 {
@@ -28,6 +29,7 @@ void *__wrap_malloc(size_t size)
         return NULL;
     void *block = __real_malloc(size);
     held += block != NULL;
+    held_bytes += malloc_usable_size(block);
     return block;
 }
 
@@ -35,14 +37,18 @@ void *__wrap_realloc(void *block, size_t size)
 {
     if (fails())
         return NULL;
+    size_t before = malloc_usable_size(block);
     void *grown = __real_realloc(block, size);
     held += block == NULL && grown != NULL;
+    if (grown != NULL)
+        held_bytes += malloc_usable_size(grown) - before;
     return grown;
 }
 
 void __wrap_free(void *block)
 {
     held -= block != NULL;
+    held_bytes -= malloc_usable_size(block);
     __real_free(block);
 }
 
@@ -329,8 +335,56 @@ static hanneddois_status clone_with_groups(hanneddois_regex *regex)
     return clone(regex);
 }
 
+/* 100,000 streams, each with another input so far, take less than 64 bytes each beside the cache and the states that they share, and in all
+   less than 100 MB. Each is in one of many states, over a cache of the least capacity, which is cleared all the time. */
+static void many_streams(void)
+{
+    enum { COUNT = 100000, READ = 40 };
+    static const uint8_t text[] = "a[a-z]{9}c|[0-9]{4}x";
+    static const size_t length = sizeof text - 1;
+    hanneddois_streams streams = HANNEDDOIS_EMPTY;
+    hanneddois_options options = {0};
+    hanneddois_end ends[1];
+    uint32_t dice = 1;
+    options.flags = HANNEDDOIS_RAISE_CAPACITY;
+    options.capacity = 1;
+    start(0);
+    CHECK(hanneddois_streams_new(&streams, text, length, &length, 1, &options, &error) == HANNEDDOIS_OK);
+    size_t before = held_bytes;
+    for (size_t i = 0; i < COUNT; i++) {
+        size_t stream, taken, count;
+        uint8_t bytes[READ];
+        CHECK(hanneddois_stream_new(&streams, &stream) == HANNEDDOIS_OK && stream == i);
+        for (size_t k = 0; k < READ; k++) {
+            dice = dice * 1664525 + 1013904223;
+            bytes[k] = (uint8_t)"aaaacdefxz0123456789"[(dice >> 16) % 20];
+        }
+        CHECK(hanneddois_stream_feed(&streams, stream, bytes, 4, ends, 1, &taken, &count, &error) == HANNEDDOIS_OK);
+        if (i == 0)
+            before = held_bytes;
+    }
+    /* the list of streams doubles, so it may have room for twice as many */
+    CHECK(held_bytes - before < 2 * 64 * (size_t)COUNT + (1 << 20));
+    for (size_t i = 0; i < COUNT; i++) {
+        size_t taken = 0, count;
+        uint8_t bytes[READ];
+        for (size_t k = 0; k < READ; k++) {
+            dice = dice * 1664525 + 1013904223;
+            bytes[k] = (uint8_t)"aaaacdefxz0123456789"[(dice >> 16) % 20];
+        }
+        for (size_t at = 0; at < READ; at += taken)
+            CHECK(hanneddois_stream_feed(&streams, i, bytes + at, READ - at, ends, 1, &taken, &count, &error) == HANNEDDOIS_OK);
+    }
+    if (getenv("SHOW"))
+        printf("memory: %zu bytes in %zu blocks for %d streams\n", held_bytes, held, COUNT);
+    CHECK(held_bytes < 100000000);
+    hanneddois_streams_free(&streams);
+    CHECK(held == 0);
+}
+
 int main(void)
 {
+    many_streams();
     replaced();
     cloned();
     made_at_once();

@@ -460,6 +460,67 @@ static void allocations_may_fail()
     allocations_left = -1;
 }
 
+/* The pairs of pattern and end, as "pattern:end ". */
+static std::string told_of(const std::vector<hanneddois::stream_end> &ends)
+{
+    std::string told;
+    for (const hanneddois::stream_end &each : ends)
+        told += std::to_string(each.pattern) + ':' + std::to_string(each.end) + ' ';
+    return told;
+}
+
+static void streams_report_ends()
+{
+    hanneddois::stream_set set({"ab+", "(?-u:\\b)b", "$"});
+    const std::string_view input = "xabb b";
+    for (std::size_t i = 0; i <= input.size(); i++) {
+        hanneddois::stream first = set.open();
+        std::string told = told_of(first.feed(input.substr(0, i)));
+        hanneddois::stream second = first.clone();
+        first.feed("zab");
+        first.reset();
+        CHECK(first.position() == 0 && second.position() == i);
+        second.feed_each(input.substr(i), [&](const hanneddois::stream_end &each) { told += told_of({each}); });
+        told += told_of(second.close());
+        CHECK(told == "0:3 0:4 1:6 2:6 " && second.position() == input.size());
+        CHECK_THROWS(second.feed("a"), error.status() == status::closed);
+        CHECK_THROWS(second.close(), error.status() == status::closed);
+        CHECK(told_of(first.feed("ab")).empty() && told_of(first.close()) == "0:2 2:2 ");
+    }
+    hanneddois::stream kept;
+    {
+        hanneddois::stream_set shorter("a+");
+        kept = shorter.open();
+        CHECK(shorter.memory_usage() > 0 && !shorter.empty());
+    }
+    CHECK(told_of(kept.feed("aab")) == "0:1 0:2 " && told_of(kept.close()).empty());
+    kept.reset();
+    CHECK(kept.feed(std::string(3000, 'a')).size() == 2999 && kept.position() == 3000);
+}
+
+static void streams_may_fail()
+{
+    CHECK_THROWS(hanneddois::stream_set("a\\bb"), error.status() == status::word_boundary && error.pattern() == 0);
+    CHECK_THROWS(hanneddois::stream_set({"a", "("}), error.status() == status::syntax_error && error.pattern() == 1);
+    CHECK(!hanneddois::stream_set("a\\bb", flag::no_unicode).empty());
+    hanneddois::stream_set none, set("a+b");
+    hanneddois::stream nothing, opened = set.open();
+    failure reason;
+    CHECK_THROWS(none.open(), error.status() == status::bad_argument);
+    CHECK_THROWS(nothing.feed("a"), error.status() == status::bad_argument);
+    CHECK(nothing.close(reason).empty() && reason.status() == status::bad_argument);
+    CHECK(nothing.clone(reason).position() == 0 && reason.status() == status::bad_argument);
+    survives_failed_allocations([](failure &why) { hanneddois::stream_set("a pattern that is longer than a short string", {}, why); });
+    survives_failed_allocations([&](failure &why) {
+        opened.reset();
+        opened.feed("aab aab ", why);
+    });
+    survives_failed_allocations([&](failure &why) {
+        opened.reset();
+        opened.close(why);
+    });
+}
+
 int main(int argc, char **argv)
 {
     if (argc != 2) {
@@ -483,6 +544,8 @@ int main(int argc, char **argv)
     a_clone_is_a_regex_of_its_own();
     different_regexes_serve_different_threads();
     allocations_may_fail();
+    streams_report_ends();
+    streams_may_fail();
     CHECK(hanneddois::version() == HANNEDDOIS_VERSION);
     return failed;
 }

@@ -110,7 +110,7 @@ def is_the_start_of_the_file(case):
 
 def misses_matches(case):
     """ripgrep 13 finds one match in `xab abx` of the patterns `\\Ba` and `x`, of which there are three."""
-    return case.has("-o", "--count-matches") and case.pattern.text == "\\Ba" and len(case.asked().patterns) > 1
+    return case.has("-o", "--count-matches", "--color=always", "-p", "--vimgrep") and case.pattern.text == "\\Ba" and len(case.asked().patterns) > 1
 
 
 def counts_though_names_are_asked_for(case):
@@ -130,6 +130,18 @@ def has_other_empty_matches(case):
     return shows and case.may_be_empty() and is_open
 
 
+def marks_the_line_feed(case):
+    """With -w, -x and colours GNU grep 3.8 marks the line feed with the match."""
+    return case.has("-w") and case.has("-x") and case.asked().color
+
+
+def has_other_previews(case):
+    """ripgrep's --max-columns-preview counts what a reader takes for a character, and -M bytes: so a line may be printed whole, and marked as
+    cut. With -o it counts the
+    other matches of the line, too, that begin after what it prints of one."""
+    return case.has("--max-columns-preview") and (case.has("-o") or case.reads(LETTERS | BROKEN) or any(b"\r" in it for it in case.data().values()))
+
+
 GREP = [
     selects_no_line,
     takes_fewer_than_none,
@@ -139,6 +151,7 @@ GREP = [
     is_a_word_next_to_broken_bytes,
     is_the_empty_word,
     is_by_the_order_of_patterns,
+    marks_the_line_feed,
 ]
 
 RIPGREP = [
@@ -150,4 +163,5 @@ RIPGREP = [
     counts_though_names_are_asked_for,
     has_other_context,
     has_other_empty_matches,
+    has_other_previews,
 ]

@@ -143,7 +143,7 @@ def add_options(parser):
     add = parser.add_argument_group("random command lines").add_argument
     add("--random", action="store_true", help="compare random command lines over random files until the time is over")
     add("--for", dest="seconds", type=float, default=NIGHT, metavar="SECONDS", help="the time; 8 hours if it isn't given")
-    add("--minutes", dest="seconds", type=lambda it: 60 * float(it), metavar="N", help="the time in minutes, as of compare/run")
+    add("--minutes", dest="seconds", type=lambda it: 60 * float(it), metavar="N", help="the time in minutes, as of tests/compare/run")
     add("--seed", help="the seed of the cases; a new one, or that of a run that was ended")
     add("--state", default=f"{OUT}/random.json", metavar="FILE", help="where it writes how far it came, until it has ended")
     add("--case", type=int, metavar="NUMBER", help="run the case of this number and print all of it")

@@ -30,7 +30,9 @@ class Asked:
     count_matches: bool = False
     matches: bool = False
     numbers: bool = False
+    no_numbers: bool = False
     columns: bool = False
+    no_columns: bool = False
     each: bool = False
     offsets: bool = False
     names: bool | None = None
@@ -48,8 +50,13 @@ class Asked:
     tab: bool = False
     trim: bool = False
     most_bytes: int | None = None
+    preview: bool = False
     width: int = 0
+    match_separator: bytes = b":"
+    context_separator: bytes = b"-"
     group: bytes | None = b"--"
+    colors: bytes = b""
+    old_color: bytes = b""
 
 
 @dataclass(frozen=True)
@@ -150,28 +157,58 @@ def is_near(selected, index, before, after):
     return any(selected[max(0, index - (after or 0)) : index + (before or 0) + 1])
 
 
-def coloured(asked, code, text):
-    return b"\33[%sm\33[K%s\33[m\33[K" % (code, text) if asked.color else text
+DEFAULTS = {b"sl": b"", b"cx": b"", b"ms": b"01;31", b"mc": b"01;31", b"fn": b"35", b"ln": b"32", b"bn": b"32", b"se": b"36"}
+
+
+def caps_of(asked):
+    """GREP_COLOR and GREP_COLORS: the items before the first one with a character that isn't allowed take effect."""
+    caps = dict(DEFAULTS, rv=False, ne=False)
+    if asked.old_color and not asked.old_color.strip(b"0123456789;"):
+        caps[b"ms"] = caps[b"mc"] = asked.old_color
+    for item in asked.colors.split(b":"):
+        name, equals, value = item.partition(b"=")
+        if equals and (not name or value.strip(b"0123456789;")):
+            return caps
+        if equals and name in DEFAULTS:
+            caps[name] = value
+        if name == b"mt":
+            caps[b"mc"] = caps[b"ms"] = value if equals else caps[b"ms"]
+        if name in (b"rv", b"ne"):
+            caps[name.decode()] = True
+    return caps
+
+
+def start(asked, code):
+    return b"\33[%sm" % code + (b"" if caps_of(asked)["ne"] else b"\33[K") if asked.color and code else b""
+
+
+def end(asked, code):
+    return b"\33[m" + (b"" if caps_of(asked)["ne"] else b"\33[K") if asked.color and code else b""
+
+
+def coloured(asked, cap, text):
+    code = caps_of(asked)[cap]
+    return start(asked, code) + text + end(asked, code)
 
 
 def field(asked, code, text, sign):
-    return coloured(asked, code, text) + coloured(asked, b"36", sign)
+    return coloured(asked, code, text) + coloured(asked, b"se", sign)
 
 
 def name_before(asked, name, other):
-    return coloured(asked, b"35", name) + (b"\0" if asked.zero_names else other)
+    return coloured(asked, b"fn", name) + (b"\0" if asked.zero_names else other)
 
 
 def name_field(asked, name, sign):
-    return b"" if name is None else name_before(asked, name, coloured(asked, b"36", sign))
+    return b"" if name is None else name_before(asked, name, coloured(asked, b"se", sign))
 
 
 def fields(asked, name, line, column, offset, sign):
     """column is None for a line without a match that is shown."""
-    shown = [line.number] if asked.numbers else []
-    shown += [column] if asked.columns and column is not None else []
-    shown += [offset] if asked.offsets else []
-    numbers = [field(asked, b"32", b"%*d" % (asked.width, it), sign) for it in shown]
+    shown = [(b"ln", line.number)] if asked.numbers else []
+    shown += [(b"ln", column)] if asked.columns and column is not None else []
+    shown += [(b"bn", offset)] if asked.offsets else []
+    numbers = [field(asked, cap, b"%*d" % (asked.width, it), sign) for cap, it in shown]
     return name_field(asked, name, sign) + b"".join(numbers)
 
 
@@ -183,14 +220,24 @@ def trimmed(asked, text):
     return text.lstrip(b"\t\n\v\f\r ") if asked.trim else text
 
 
-def marked(asked, text, left, spans):
+def line_cap(asked, is_selected):
+    return b"sl" if is_selected != (asked.invert and caps_of(asked)["rv"]) else b"cx"
+
+
+def marked(asked, text, left, spans, is_selected):
     """The text is a line without so many bytes at its beginning. Empty matches aren't marked."""
+    caps = caps_of(asked)
+    own, match = caps[line_cap(asked, is_selected)], b"ms" if is_selected else b"mc"
     parts, at = [], 0
-    for start, end in spans:
-        start, end = max(start - left, 0), max(end - left, 0)
-        parts += [text[at:start], coloured(asked, b"01;31", text[start:end]) if start < end else b""]
-        at = end
-    return b"".join(parts) + text[at:]
+    for first, last in spans if asked.color and caps[match] else ():
+        first, last = max(first - left, 0), max(last - left, 0)
+        if first < last and first < len(text):
+            parts += [start(asked, own), text[at:first], coloured(asked, match, text[first:last])]
+            at = last
+    tail = text[at:]
+    rest = b"\r" if own and asked.color and tail.endswith(b"\r") else b""
+    tail = tail[: len(tail) - len(rest)]
+    return b"".join(parts) + (start(asked, own) + tail + end(asked, own) if tail else b"") + rest
 
 
 def omission(is_selected, count):
@@ -203,27 +250,45 @@ def exceeds(asked, length):
     return asked.most_bytes is not None and length > asked.most_bytes
 
 
-def line_text(asked, name, line, is_selected, spans, count):
-    """A line after its fields, with these matches marked in it. It has so many."""
-    if exceeds(asked, len(line.printed) + line.is_ended):
-        text = shown = omission(is_selected, count)
-    else:
-        text = trimmed(asked, line.printed)
-        shown = marked(asked, text, len(line.printed) - len(text), spans)
-    return tab(asked, name, text) + shown + b"\n"
+def front(asked, text):
+    """The beginning of a text that is too long: whole characters."""
+    end = asked.most_bytes
+    while 0 < end < len(text) and 0x80 <= text[end] < 0xC0:
+        end -= 1
+    return text[:end]
+
+
+def more_note(count):
+    return b" [... %d more match%s]" % (count, b"" if count == 1 else b"es")
+
+
+def bytes_of(asked, line, is_selected, spans):
+    text = trimmed(asked, line)
+    return marked(asked, text, len(line) - len(text), spans, is_selected)
+
+
+def line_text(asked, name, line, is_selected, spans, shown):
+    """A line after its fields, with these of the matches that are shown in it marked."""
+    if not exceeds(asked, len(line.printed) + line.is_ended):
+        return tab(asked, name, trimmed(asked, line.printed)) + bytes_of(asked, line.printed, is_selected, spans) + b"\n"
+    if not asked.preview:
+        return tab(asked, name, b"x") + omission(is_selected, len(shown)) + b"\n"
+    text = front(asked, line.printed)
+    note = more_note(sum(it[0] >= len(text) for it in shown)) if shown else b" [... omitted end of long line]"
+    return tab(asked, name, note) + bytes_of(asked, text, is_selected, spans) + note + b"\n"
 
 
 def match_text(asked, name, text, is_selected):
-    if exceeds(asked, len(text)):
-        text = shown = omission(is_selected, 0)
-    else:
-        text = trimmed(asked, text)
-        shown = coloured(asked, b"01;31", text) if text else b""
-    return tab(asked, name, text) + shown + b"\n"
+    is_long = exceeds(asked, len(text))
+    if is_long and not asked.preview:
+        return tab(asked, name, b"x") + omission(is_selected, 0) + b"\n"
+    note = more_note(0) if is_long else b""
+    text = trimmed(asked, front(asked, text) if is_long else text)
+    return tab(asked, name, text + note) + (coloured(asked, b"ms" if is_selected else b"mc", text) if text else b"") + note + b"\n"
 
 
 def printed_line(asked, regex, name, line, is_selected):
-    sign = b":" if is_selected else b"-"
+    sign = asked.match_separator if is_selected else asked.context_separator
     spans = spans_of(regex, line) if is_selected != asked.invert else []
     if asked.matches:
         rows = [(it[0], it[0], match_text(asked, name, line.printed[slice(*it)], is_selected)) for it in spans if it[0] < it[1]]
@@ -231,7 +296,7 @@ def printed_line(asked, regex, name, line, is_selected):
         spans = spans if asked.color or asked.columns or asked.each else []
         texts = [(it[0], it[0], [it]) for it in spans] if asked.each else []
         texts = texts or [(spans[0][0] if spans else None, 0, spans)]
-        rows = [(start, offset, line_text(asked, name, line, is_selected, it, len(spans))) for start, offset, it in texts]
+        rows = [(start, offset, line_text(asked, name, line, is_selected, it, spans)) for start, offset, it in texts]
     return b"".join(
         fields(asked, name, line, None if start is None else start + 1, line.offset + offset, sign) + row for start, offset, row in rows
     )
@@ -247,7 +312,7 @@ def printed_lines(asked, regex, name, lines, selected, known):
             known = known and "earlier"
             continue
         if known == "earlier" and has_groups and not asked.passthru and asked.group is not None:
-            out += coloured(asked, b"36", asked.group) + b"\n"
+            out += coloured(asked, b"se", asked.group) + b"\n"
         out += printed_line(asked, regex, name, line, selected[index])
         known = "last"
     return out, known
@@ -288,6 +353,8 @@ def report(asked, files):
     """Status and output for these files, by name."""
     has_heading = (asked.heading or asked.pretty) and not (asked.no_heading or asked.each)
     asked = replace(asked, color=asked.color or asked.pretty and not (asked.plain or asked.each), heading=has_heading)
+    has_numbers = not asked.no_numbers and (asked.numbers or asked.columns or asked.pretty or asked.each)
+    asked = replace(asked, numbers=has_numbers, columns=not asked.no_columns and (asked.columns or asked.each))
     regex, known, out, status = regex_of(asked), None, b"", 1
     has_name = asked.each or len(files) > 1 if asked.names is None else asked.names
     prints_all = asked.passthru and not (asked.quiet or asked.with_match or asked.count or asked.count_matches)

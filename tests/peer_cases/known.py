@@ -20,13 +20,10 @@ RIPGREP = {
     "regression r1163": ENCODING,
     "regression r1638": ENCODING,
     "misc count_matches_via_only": GREP_HABIT + ": `-c` counts lines, also with `-o`",
-    "misc vimgrep_no_line": "`--vimgrep` always prints lines and columns",
-    "misc vimgrep_no_line_no_column": "`--vimgrep` always prints lines and columns",
     "regression r210": "a name that isn't UTF-8",
     "regression r553_flag": GREP_HABIT + ": `-C 0` prints a line between groups",
     "regression r599": "`--color` has the words of GNU grep",
     "regression r1130": GREP_HABIT + ": the status of `-L` says whether a line is selected",
-    "regression r1868_context_passthru_override": "`--passthru` takes precedence over `-C`",
 }
 for _name in """feature:f1138_no_ignore_dot feature:f1420_no_ignore_exclude feature:f1404_nothing_searched_warning feature:f1404_nothing_searched_ignored
 misc:ignore_git misc:ignore_generic misc:ignore_ripgrep misc:ignore_git_parent misc:ignore_ripgrep_parent_no_stop regression:r16 regression:r65

@@ -15,7 +15,7 @@ LETTERS = {"0": "--null", "E": "--encoding", "I": "--no-filename", "L": "-R", "N
            "h": "--help"}
 LONG = {"case-sensitive": "no-ignore-case", "context-separator": "group-separator", "no-context-separator": "no-group-separator", "follow": "dereference-recursive",
         "maxdepth": "max-depth", "null-data": "null-data", "passthrough": "passthru", "no-unicode": "no-unicode"}
-ALREADY = {"no-heading", "no-mmap", "mmap", "no-config", "threads", "no-pcre2", "no-stats", "no-column", "no-multiline"}
+ALREADY = {"no-heading", "no-mmap", "mmap", "no-config", "threads", "no-pcre2", "no-stats", "no-multiline"}
 SORTS = {"sort-files": ["--sort", "path"], "no-sort-files": ["--sort", "none"]}
 
 

@@ -48,13 +48,13 @@ def swept_calls(room):
     wraps = "-Wl,--wrap=malloc,--wrap=realloc,--wrap=free"
     if not has_compiler():
         return [], [NO_COMPILER]
-    if not library() or not compile_c(["-I", f"{TOP}/capi", wraps, "-o", place, f"{TOP}/refused/library/calls.c", library()]):
-        return [], ["refused/library/calls.c isn't built: it wants libhanneddois.a of dist/ or of capi/build"]
+    if not library() or not compile_c(["-I", f"{TOP}/capi", wraps, "-o", place, f"{TOP}/tests/refused/library/calls.c", library()]):
+        return [], ["tests/refused/library/calls.c isn't built: it wants libhanneddois.a of dist/ or of capi/build"]
     run = subprocess.run([place], stdout=subprocess.PIPE, stderr=subprocess.STDOUT, text=True, check=False, timeout=1800)
     rows = [(name, *map(int, counts)) for name, *counts in re.findall(r"(?m)^\| `(\w+)` \| (\d+) \| (\d+) \| (\d+) \|$", run.stdout)]
     wrong = [it for it in run.stdout.splitlines() if not it.startswith("| `")]
     if run.returncode and not wrong:
-        wrong.append(f"refused/library/calls.c ended with {run.returncode}")
+        wrong.append(f"tests/refused/library/calls.c ended with {run.returncode}")
     return rows, wrong
 
 
@@ -67,4 +67,4 @@ def is_library_of_header():
     """Whether the library that is found was built from these sources, so that the header is its own."""
     if library() != f"{DIST}/libhanneddois.a":
         return library() is not None
-    return subprocess.run(["sh", "-c", 'top=$1; . "$top/scripts/dist.sh"; is_of_sources', "sh", TOP], check=False).returncode == 0
+    return subprocess.run(["sh", "-c", 'top=$1; . "$top/tools/dist.sh"; is_of_sources', "sh", TOP], check=False).returncode == 0

@@ -1,5 +1,5 @@
 """Each allocation of hirgrep fails in turn, with each option that --help names and each of its values. What fails is loaded before the
-system's allocator (refused/programs/fail.c), so the program is the built one."""
+system's allocator (tests/refused/programs/fail.c), so the program is the built one."""
 
 import os
 import re
@@ -30,6 +30,7 @@ OTHERS = [
     ("-F", "-i", "-c", "-f", "patterns", "a.log", "letters"),
     ("-v", "-n", "-b", "-H", "-T", "-e", PATTERN, "a.log"),
     ("-A1", "-B1", "--color=always", "-n", "-e", PATTERN, "a.log", "letters"),
+    ("-M3", "--max-columns-preview", "--column", "--color=always", "-e", PATTERN, "a.log", "letters"),
     ("-r", "-l", "-Z", "-e", PATTERN, "tree"),
     ("-r", "--exclude-from", "globs", "--sort", "path", "-e", PATTERN, "tree"),
     ("-e", PATTERN, "missing", "a.log"),
@@ -171,8 +172,8 @@ def sweep_options(room, names, is_few, jobs):
     if not has_compiler():
         yield "all", 0, 0, 0, 0, [NO_COMPILER]
         return
-    if not program() or not compile_c(["-shared", "-fPIC", "-o", f"{room}/fail.so", f"{TOP}/refused/programs/fail.c"]):
-        yield "all", 0, 0, 0, 0, ["refused/programs/fail.c isn't built: it wants hirgrep of dist/ or of ./prove"]
+    if not program() or not compile_c(["-shared", "-fPIC", "-o", f"{room}/fail.so", f"{TOP}/tests/refused/programs/fail.c"]):
+        yield "all", 0, 0, 0, 0, ["tests/refused/programs/fail.c isn't built: it wants hirgrep of dist/ or of ./prove"]
         return
     lines = [it for it in lines_of(room) if it.option.lstrip("-") in (names or [it.option.lstrip("-")])]
     for name in sorted(set(names) - {it.option.lstrip("-") for it in lines}):

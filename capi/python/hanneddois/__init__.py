@@ -18,11 +18,13 @@ import os
 import sys
 import types
 
-from ._common import (BAD_ARGUMENT, CAPACITY_TOO_SMALL, CASE_INSENSITIVE, CRLF, DOT_MATCHES_NEW_LINE, EMPTY_LOOP, EMPTY_LOOPS,
+from ._common import (BAD_ARGUMENT, CAPACITY_TOO_SMALL, CASE_INSENSITIVE, CLOSED, CRLF, DOT_MATCHES_NEW_LINE, EMPTY_LOOP, EMPTY_LOOPS,
                       GROUPS, HAYSTACK_NOT_UTF8, IGNORE_WHITESPACE, MATCHING_PATTERNS, MULTI_LINE, NESTS_TOO_DEEP, NO_BYTE_CLASSES, NO_MEMORY,
                       NO_PATTERN, NO_UNICODE, NONE, NOT_UTF8, OCTAL, OK, RAISE_CAPACITY, SHRINK, SWAP_GREED, SYNTAX_ERROR, TOO_LARGE,
-                      UTF8, WHICH, Error)
+                      UTF8, WHICH, WORD_BOUNDARY, Error)
 from ._groups import add_methods, parse_templates
+from ._streams import Stream
+from ._streams import streams_of as _streams_of
 
 try:
     if os.environ.get("HANNEDDOIS_LIBRARY"):
@@ -34,11 +36,11 @@ except ImportError:
     from ._ctypes import Match, Matcher, version
     backend = "ctypes"
 
-__all__ = ["BAD_ARGUMENT", "CAPACITY_TOO_SMALL", "CASE_INSENSITIVE", "CRLF", "DOTALL", "DOT_MATCHES_NEW_LINE", "EMPTY_LOOP", "EMPTY_LOOPS",
+__all__ = ["BAD_ARGUMENT", "CAPACITY_TOO_SMALL", "CASE_INSENSITIVE", "CLOSED", "CRLF", "DOTALL", "DOT_MATCHES_NEW_LINE", "EMPTY_LOOP", "EMPTY_LOOPS",
            "Error", "GROUPS", "HAYSTACK_NOT_UTF8", "I", "IGNORECASE", "IGNORE_WHITESPACE", "M", "MATCHING_PATTERNS", "MULTILINE", "MULTI_LINE",
            "Match", "NESTS_TOO_DEEP", "NOFLAG", "NONE", "NOT_UTF8", "NO_BYTE_CLASSES", "NO_MEMORY", "NO_PATTERN", "NO_UNICODE", "OCTAL",
-           "OK", "Pattern", "PatternError", "RAISE_CAPACITY", "Regex", "S", "SHRINK", "SWAP_GREED", "SYNTAX_ERROR", "TOO_LARGE", "U", "UNICODE", "UTF8",
-           "VERBOSE", "WHICH", "X", "backend", "compile", "error", "escape", "findall", "finditer", "fullmatch", "match", "purge", "search",
+           "OK", "Pattern", "PatternError", "RAISE_CAPACITY", "Regex", "S", "SHRINK", "SWAP_GREED", "Stream", "SYNTAX_ERROR", "TOO_LARGE", "U", "UNICODE", "UTF8",
+           "VERBOSE", "WHICH", "WORD_BOUNDARY", "X", "backend", "compile", "error", "escape", "findall", "finditer", "fullmatch", "match", "purge", "search",
            "split", "sub", "subn", "version"]
 
 # The names of flags in re. Patterns are Unicode's without one.
@@ -103,6 +105,12 @@ class Regex(Matcher):
         flags, nest_limit = _as_flags(flags), _as_number("nest_limit", nest_limit, 32)
         capacity, size_limit = _as_number("capacity", capacity, 63), _as_number("size_limit", size_limit, 63)
         return super().__new__(cls, patterns, encoded, flags, capacity, size_limit, nest_limit)
+
+    def stream(self):
+        """Returns a new Stream: a search of input that comes in pieces. All of a regex share an automaton and its cache.
+
+        Raises Error if a pattern has a Unicode word boundary, as \\b or \\B: write (?-u:\\b), or use NO_UNICODE."""
+        return Stream(_streams_of(self))
 
     which = Matcher.matching_patterns  # the name in version 0.2
 

@@ -4,7 +4,7 @@
  MATCHING_PATTERNS, RAISE_CAPACITY, NO_BYTE_CLASSES, SHRINK, GROUPS) = (1 << i for i in range(15))
 
 (OK, NONE, BAD_ARGUMENT, NO_MEMORY, NOT_UTF8, SYNTAX_ERROR, NESTS_TOO_DEEP, EMPTY_LOOP, TOO_LARGE, CAPACITY_TOO_SMALL) = range(10)
-HAYSTACK_NOT_UTF8 = 12
+WORD_BOUNDARY, HAYSTACK_NOT_UTF8, CLOSED = 10, 12, 14
 
 # Names of version 0.2, which version 0.4 won't have.
 NO_PATTERN, WHICH = SYNTAX_ERROR, MATCHING_PATTERNS
@@ -15,7 +15,7 @@ class Error(Exception):
 
     The fields are those of hanneddois_error, and the C header describes them:
 
-    status   one of the constants from BAD_ARGUMENT to HAYSTACK_NOT_UTF8
+    status   one of the constants from BAD_ARGUMENT to CLOSED
     cause    what is wrong with a pattern, as a number
     pattern  the number of the pattern
     start    the offset of what is wrong: in a pattern that is a str by characters, and otherwise by bytes

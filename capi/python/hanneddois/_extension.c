@@ -2204,6 +2204,241 @@ static PyType_Slot matcher_slots[] = {
 
 static PyType_Spec matcher_spec = {"hanneddois._extension.Matcher", sizeof(Matcher), 0, Py_TPFLAGS_DEFAULT | Py_TPFLAGS_BASETYPE, matcher_slots};
 
+/* ---- streams */
+
+/* An automaton with its cache and streams, which are known by their numbers. One thread at a time calls it: _streams.py sees to that. */
+typedef struct {
+    PyObject_HEAD
+    hanneddois_streams streams;
+    hanneddois_end *rows;
+    size_t row_count;
+} StreamSet;
+
+/* A call has room for so many ends, and for one of each pattern. */
+#define LEAST_ENDS 256
+
+/* Joins patterns, which are a tuple of bytes. Returns them as bytes, with their lengths. */
+static PyObject *join_patterns(PyObject *encoded, size_t *lengths)
+{
+    PyObject *empty = PyBytes_FromString(""), *joined = NULL;
+    for (Py_ssize_t i = 0; empty && i < PyTuple_Size(encoded); i++) {
+        char *bytes;
+        Py_ssize_t length;
+        if (PyBytes_AsStringAndSize(PyTuple_GetItem(encoded, i), &bytes, &length) < 0)
+            Py_CLEAR(empty);
+        else
+            lengths[i] = (size_t)length;
+    }
+    if (empty)
+        joined = PyObject_CallMethod(empty, "join", "(O)", encoded);
+    Py_XDECREF(empty);
+    return joined;
+}
+
+/* Compiles the patterns, and gives up the interpreter's lock meanwhile. */
+static int compile_streams(StreamSet *self, PyObject *joined, const size_t *lengths, size_t count, const hanneddois_options *options)
+{
+    char *bytes;
+    Py_ssize_t length;
+    hanneddois_status status;
+    hanneddois_error error;
+    if (PyBytes_AsStringAndSize(joined, &bytes, &length) < 0)
+        return -1;
+    Py_BEGIN_ALLOW_THREADS
+    status = hanneddois_streams_new(&self->streams, (const uint8_t *)bytes, (size_t)length, lengths, count, options, &error);
+    Py_END_ALLOW_THREADS
+    if (status == HANNEDDOIS_OK)
+        return 0;
+    raise_error(&error);
+    return -1;
+}
+
+static int fill_streams(StreamSet *self, PyObject *encoded, const hanneddois_options *options)
+{
+    size_t count = (size_t)PyTuple_Size(encoded);
+    size_t *lengths = PyMem_Malloc((count ? count : 1) * sizeof *lengths);
+    self->row_count = count < LEAST_ENDS ? LEAST_ENDS : count;
+    self->rows = PyMem_Malloc(self->row_count * sizeof *self->rows);
+    PyObject *joined = lengths && self->rows ? join_patterns(encoded, lengths) : PyErr_NoMemory();
+    int result = joined ? compile_streams(self, joined, lengths, count, options) : -1;
+    Py_XDECREF(joined);
+    PyMem_Free(lengths);
+    return result;
+}
+
+static PyObject *streams_new(PyTypeObject *type, PyObject *args, PyObject *Py_UNUSED(kwargs))
+{
+    PyObject *encoded;
+    unsigned flags, nest_limit;
+    Py_ssize_t capacity, size_limit;
+    if (!PyArg_ParseTuple(args, "O!InnI:StreamSet", &PyTuple_Type, &encoded, &flags, &capacity, &size_limit, &nest_limit))
+        return NULL;
+    hanneddois_options options = {flags, nest_limit, (size_t)capacity, (size_t)size_limit};
+    allocfunc allocate = (allocfunc)PyType_GetSlot(type, Py_tp_alloc);
+    StreamSet *self = (StreamSet *)allocate(type, 0);
+    if (self && fill_streams(self, encoded, &options) < 0)
+        Py_CLEAR(self);
+    return (PyObject *)self;
+}
+
+static void streams_dealloc(PyObject *object)
+{
+    StreamSet *self = (StreamSet *)object;
+    PyTypeObject *type = Py_TYPE(object);
+    hanneddois_streams_free(&self->streams);
+    PyMem_Free(self->rows);
+    ((freefunc)PyType_GetSlot(type, Py_tp_free))(object);
+    Py_DECREF(type);
+}
+
+/* The number of a stream that was added, or the error. */
+static PyObject *added_stream(hanneddois_status status, size_t number)
+{
+    hanneddois_error error = {status, 0, 0, 0, 0, 0};
+    if (status == HANNEDDOIS_OK)
+        return PyLong_FromSize_t(number);
+    raise_error(&error);
+    return NULL;
+}
+
+static PyObject *streams_open(PyObject *object, PyObject *Py_UNUSED(ignored))
+{
+    size_t number;
+    hanneddois_status status = hanneddois_stream_new(&((StreamSet *)object)->streams, &number);
+    return added_stream(status, number);
+}
+
+static int is_number(PyObject *object, size_t *number)
+{
+    *number = PyLong_AsSize_t(object);
+    return !PyErr_Occurred();
+}
+
+static PyObject *streams_copy(PyObject *object, PyObject *from)
+{
+    size_t source, number;
+    if (!is_number(from, &source))
+        return NULL;
+    hanneddois_status status = hanneddois_stream_clone(&((StreamSet *)object)->streams, source, &number);
+    return added_stream(status, number);
+}
+
+static PyObject *streams_remove(PyObject *object, PyObject *of)
+{
+    size_t number;
+    if (!is_number(of, &number))
+        return NULL;
+    hanneddois_stream_free(&((StreamSet *)object)->streams, number);
+    return new_reference(Py_None);
+}
+
+static PyObject *streams_reset(PyObject *object, PyObject *of)
+{
+    size_t number;
+    if (!is_number(of, &number))
+        return NULL;
+    hanneddois_stream_reset(&((StreamSet *)object)->streams, number);
+    return new_reference(Py_None);
+}
+
+/* Appends the first rows to a list, as pairs of pattern and end. */
+static int append_pairs(PyObject *pairs, const hanneddois_end *rows, size_t count)
+{
+    for (size_t i = 0; i < count; i++) {
+        PyObject *pair = Py_BuildValue("(nn)", (Py_ssize_t)rows[i].pattern, (Py_ssize_t)rows[i].end);
+        int result = pair ? PyList_Append(pairs, pair) : -1;
+        Py_XDECREF(pair);
+        if (result < 0)
+            return -1;
+    }
+    return 0;
+}
+
+/* Feeds what is left of a piece, as far as the rows have room. */
+static hanneddois_status feed_rest(StreamSet *self, size_t number, const Haystack *piece, size_t done, size_t *taken, size_t *count,
+                                   hanneddois_error *error)
+{
+    hanneddois_status status;
+    if (!piece->may_unlock)
+        return hanneddois_stream_feed(&self->streams, number, piece->bytes + done, piece->length - done, self->rows, self->row_count, taken, count,
+                                      error);
+    Py_BEGIN_ALLOW_THREADS
+    status = hanneddois_stream_feed(&self->streams, number, piece->bytes + done, piece->length - done, self->rows, self->row_count, taken, count,
+                                    error);
+    Py_END_ALLOW_THREADS
+    return status;
+}
+
+/* The pair of how many bytes were read, and the error or None. */
+static PyObject *feed_whole(StreamSet *self, size_t number, const Haystack *piece, PyObject *pairs)
+{
+    size_t done = 0, taken, count;
+    hanneddois_error error = {HANNEDDOIS_OK, 0, 0, 0, 0, 0};
+    while (done < piece->length && error.status == HANNEDDOIS_OK) {
+        feed_rest(self, number, piece, done, &taken, &count, &error);
+        done += taken;
+        if (append_pairs(pairs, self->rows, count) < 0)
+            return NULL;
+    }
+    PyObject *why = error.status == HANNEDDOIS_OK ? new_reference(Py_None) : make_error(&error);
+    return why ? Py_BuildValue("(nN)", (Py_ssize_t)done, why) : NULL;
+}
+
+static PyObject *streams_feed(PyObject *object, PyObject *args)
+{
+    PyObject *of, *bytes, *pairs;
+    size_t number;
+    Haystack piece;
+    if (!PyArg_ParseTuple(args, "OOO!:feed", &of, &bytes, &PyList_Type, &pairs) || !is_number(of, &number))
+        return NULL;
+    if (PyUnicode_Check(bytes)) {
+        PyErr_SetString(PyExc_TypeError, "a stream is fed bytes-like objects, not a str: encode it");
+        return NULL;
+    }
+    if (open_haystack(&piece, bytes) < 0)
+        return NULL;
+    PyObject *result = feed_whole((StreamSet *)object, number, &piece, pairs);
+    close_haystack(&piece);
+    return result;
+}
+
+static PyObject *streams_close(PyObject *object, PyObject *of)
+{
+    StreamSet *self = (StreamSet *)object;
+    size_t number, count;
+    hanneddois_error error;
+    if (!is_number(of, &number))
+        return NULL;
+    if (hanneddois_stream_close(&self->streams, number, self->rows, self->row_count, &count, &error) != HANNEDDOIS_OK) {
+        raise_error(&error);
+        return NULL;
+    }
+    PyObject *pairs = PyList_New(0);
+    if (pairs && append_pairs(pairs, self->rows, count) < 0)
+        Py_CLEAR(pairs);
+    return pairs;
+}
+
+static PyMethodDef streams_methods[] = {
+    {"open", streams_open, METH_NOARGS, NULL},
+    {"copy", streams_copy, METH_O, NULL},
+    {"remove", streams_remove, METH_O, NULL},
+    {"reset", streams_reset, METH_O, NULL},
+    {"feed", streams_feed, METH_VARARGS, NULL},
+    {"close", streams_close, METH_O, NULL},
+    {NULL, NULL, 0, NULL},
+};
+
+static PyType_Slot streams_slots[] = {
+    {Py_tp_doc, "The streams of a regex. Stream is the class to use."},
+    {Py_tp_new, streams_new},
+    {Py_tp_dealloc, streams_dealloc},
+    {Py_tp_methods, streams_methods},
+    {0, NULL},
+};
+
+static PyType_Spec streams_spec = {"hanneddois._extension.StreamSet", sizeof(StreamSet), 0, Py_TPFLAGS_DEFAULT, streams_slots};
+
 static PyObject *version(PyObject *Py_UNUSED(module), PyObject *Py_UNUSED(ignored))
 {
     return PyLong_FromUnsignedLong(hanneddois_version());
@@ -2246,7 +2481,9 @@ PyMODINIT_FUNC PyInit__extension(void)
     matcher_type = add_type(module, "Matcher", &matcher_spec);
     match_type = add_type(module, "Match", &match_spec);
     iterator_type = add_type(module, "MatchIterator", &iterator_spec);
-    if (!matcher_type || !match_type || !iterator_type || import_common() < 0)
+    PyTypeObject *streams_type = add_type(module, "StreamSet", &streams_spec);
+    if (!matcher_type || !match_type || !iterator_type || !streams_type || import_common() < 0)
         Py_CLEAR(module);
+    Py_XDECREF(streams_type);
     return module;
 }

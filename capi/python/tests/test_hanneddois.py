@@ -14,6 +14,7 @@ import os
 import pathlib
 import pickle
 import re
+import socket
 import sys
 import tempfile
 import threading
@@ -631,7 +632,7 @@ class Regexes(unittest.TestCase):
             self.assertTrue(hasattr(hanneddois, name), name)
         public = {"capacity", "clear_count", "find", "find_all", "find_iter", "findall", "finditer", "flags", "fullmatch", "group_names",
                   "groupindex", "groups", "is_match", "match", "matching_patterns", "memory_usage", "nest_limit", "pattern", "pattern_count",
-                  "patterns", "search", "size_limit", "split", "sub", "subn", "which"}
+                  "patterns", "search", "size_limit", "split", "stream", "sub", "subn", "which"}
         self.assertEqual({name for name in dir(hanneddois.Regex) if not name.startswith("_")}, public)
         public = {"end", "endpos", "expand", "group", "groupdict", "groups", "haystack", "lastgroup", "lastindex", "pattern", "pos", "re",
                   "regs", "span", "start", "string"}
@@ -739,6 +740,89 @@ class Threads(unittest.TestCase):
             if failed:
                 break
         self.assertEqual(len(failed), 1)
+
+
+class Streams(unittest.TestCase):
+    INPUT = b"xabb b"
+    PAIRS = [(0, 3), (0, 4), (1, 6), (2, 6)]
+
+    def regex(self, **options):
+        return hanneddois.Regex(["ab+", r"(?-u:\b)b", "$"], **options)
+
+    def test_cuts(self):
+        regex = self.regex()
+        for i in range(len(self.INPUT) + 1):
+            for j in range(i, len(self.INPUT) + 1):
+                stream = regex.stream()
+                pairs = stream.feed(self.INPUT[:i]) + stream.feed(bytearray(self.INPUT[i:j])) + stream.feed(memoryview(self.INPUT)[j:])
+                self.assertEqual(stream.position, len(self.INPUT))
+                self.assertEqual(pairs + stream.close(), self.PAIRS)
+
+    def test_copies(self):
+        stream = self.regex().stream()
+        first = stream.feed(self.INPUT[:3])
+        other = copy.copy(stream)
+        self.assertEqual(stream.feed(b" ab"), [(0, 3)])
+        self.assertEqual((stream.position, other.position), (6, 3))
+        self.assertEqual(first + other.feed(self.INPUT[3:]) + other.close(), self.PAIRS)
+        with self.assertRaises(hanneddois.Error) as caught:
+            other.feed(b"a")
+        self.assertEqual(caught.exception.status, hanneddois.CLOSED)
+        other.reset()
+        self.assertEqual((other.position, other.feed(b"ab"), other.close()), (0, [], [(0, 2), (2, 2)]))
+
+    def test_many(self):
+        regex = self.regex()
+        streams = [regex.stream() for _ in range(300)]
+        found = [[] for _ in streams]
+        for byte in self.INPUT:
+            for stream, pairs in zip(streams, found):
+                pairs += stream.feed(bytes([byte]))
+        for stream, pairs in zip(streams, found):
+            self.assertEqual(pairs + stream.close(), self.PAIRS)
+
+    def test_long_pieces(self):
+        stream = hanneddois.compile("a").stream()
+        self.assertEqual(stream.feed(b"a" * 100_000), [(0, end) for end in range(1, 100_000)])
+        self.assertEqual((stream.feed(b""), stream.close()), ([], [(0, 100_000)]))
+
+    def test_sources(self):
+        regex = self.regex()
+        self.assertEqual(list(regex.stream().scan([self.INPUT[:2], b"", self.INPUT[2:]])), self.PAIRS)
+        with tempfile.TemporaryFile() as file:
+            file.write(self.INPUT)
+            file.seek(0)
+            self.assertEqual(list(regex.stream().scan(file)), self.PAIRS)
+        ends = socket.socketpair()
+        with ends[0], ends[1]:
+            ends[0].sendall(self.INPUT[:4] + b" ")
+            pairs = regex.stream().scan(ends[1])
+            self.assertEqual([next(pairs), next(pairs)], self.PAIRS[:2])
+            ends[0].sendall(b"b")
+            ends[0].shutdown(socket.SHUT_WR)
+            self.assertEqual(list(pairs), self.PAIRS[2:])
+        self.assertRaises(TypeError, regex.stream().feed, "text")
+        self.assertRaises(TypeError, next, regex.stream().scan(7))
+
+    def test_word_boundaries(self):
+        with self.assertRaises(hanneddois.Error) as caught:
+            hanneddois.Regex(["a", r"\bb"]).stream()
+        self.assertEqual((caught.exception.status, caught.exception.pattern), (hanneddois.WORD_BOUNDARY, 1))
+        self.assertEqual(hanneddois.compile(r"\bb", hanneddois.NO_UNICODE).stream().feed(b"b "), [(0, 1)])
+
+    def test_threads(self):
+        regex = hanneddois.compile("[a-d]{3}e")
+
+        def job(number):
+            stream = regex.stream()
+            for _ in range(200):
+                self.assertEqual(len(stream.feed(b"abcde ")), 1)
+
+        run_in_threads(4, job)
+
+    def test_hints(self):
+        for name in (it for it in vars(type(self.regex().stream())) if not it.startswith("_")):
+            self.assertTrue(getattr(type(self.regex().stream()), name).__doc__, name)
 
 
 class Leaks(unittest.TestCase):

@@ -4,6 +4,7 @@ use crate::error::Error;
 use crate::pool::Pool;
 use crate::regex::Regex;
 use crate::set::RegexSet;
+use crate::stream::StreamSet;
 use crate::sys;
 
 /// Patterns and options, of which a regex or a set is made.
@@ -176,6 +177,12 @@ impl RegexBuilder {
     /// Compiles the patterns.
     pub fn build(&self) -> Result<Regex, Error> {
         self.0.build()
+    }
+
+    /// Compiles the patterns for input that comes in pieces. Patterns as `(a*)*` are accepted, and those with a Unicode word
+    /// boundary rejected.
+    pub fn build_streams(&self) -> Result<StreamSet, Error> {
+        StreamSet::of(&self.0.patterns, &self.0.options)
     }
 
     options!();

@@ -41,6 +41,10 @@ pub enum ErrorKind {
     TooLarge,
     /// A cache may take fewer bytes than it needs: see [`dfa_size_limit`](crate::RegexBuilder::dfa_size_limit).
     CapacityTooSmall,
+    /// A pattern for a [`StreamSet`](crate::StreamSet) has a Unicode word boundary.
+    WordBoundary,
+    /// A [`Stream`](crate::Stream) was closed, and not reset since then.
+    Closed,
     /// The haystack isn't UTF-8, and the regex is made with [`utf8`](crate::RegexBuilder::utf8).
     HaystackNotUtf8,
     /// Anything else. [`status`](Error::status) has its number.
@@ -62,6 +66,8 @@ impl Error {
             sys::EMPTY_LOOP => ErrorKind::EmptyLoop,
             sys::TOO_LARGE => ErrorKind::TooLarge,
             sys::CAPACITY_TOO_SMALL => ErrorKind::CapacityTooSmall,
+            sys::WORD_BOUNDARY => ErrorKind::WordBoundary,
+            sys::CLOSED => ErrorKind::Closed,
             sys::HAYSTACK_NOT_UTF8 => ErrorKind::HaystackNotUtf8,
             _ => ErrorKind::Other,
         }
@@ -69,8 +75,10 @@ impl Error {
 
     /// The number of the pattern that is rejected, counted from 0.
     pub fn pattern(&self) -> Option<usize> {
-        let is_of_pattern =
-            matches!(self.0.status, sys::NOT_UTF8 | sys::SYNTAX_ERROR | sys::NESTS_TOO_DEEP | sys::EMPTY_LOOP);
+        let is_of_pattern = matches!(
+            self.0.status,
+            sys::NOT_UTF8 | sys::SYNTAX_ERROR | sys::NESTS_TOO_DEEP | sys::EMPTY_LOOP | sys::WORD_BOUNDARY
+        );
         is_of_pattern.then_some(self.0.pattern)
     }
 

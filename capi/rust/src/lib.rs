@@ -10,6 +10,7 @@ mod pool;
 mod regex;
 mod replace;
 mod set;
+mod stream;
 mod sys;
 
 pub use builders::{RegexBuilder, RegexSetBuilder};
@@ -20,6 +21,7 @@ pub use pool::Searcher;
 pub use regex::Regex;
 pub use replace::{NoExpand, Replacer, ReplacerRef};
 pub use set::{RegexSet, SetMatches, SetMatchesIntoIter, SetMatchesIter};
+pub use stream::{Stream, StreamEnd, StreamSet};
 
 /// The version of the library: 10000 times the major number, 100 times the minor one, and the patch.
 pub fn version() -> u32 {

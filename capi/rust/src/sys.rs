@@ -12,8 +12,10 @@ pub(crate) const NESTS_TOO_DEEP: u32 = 6;
 pub(crate) const EMPTY_LOOP: u32 = 7;
 pub(crate) const TOO_LARGE: u32 = 8;
 pub(crate) const CAPACITY_TOO_SMALL: u32 = 9;
+pub(crate) const WORD_BOUNDARY: u32 = 10;
 pub(crate) const HAYSTACK_NOT_UTF8: u32 = 12;
 pub(crate) const OUTPUT_TOO_SMALL: u32 = 13;
+pub(crate) const CLOSED: u32 = 14;
 
 pub(crate) const CASE_INSENSITIVE: u32 = 1 << 0;
 pub(crate) const MULTI_LINE: u32 = 1 << 1;
@@ -48,6 +50,21 @@ pub(crate) struct Regex {
 pub(crate) struct Match {
     pub(crate) pattern: usize,
     pub(crate) start: usize,
+    pub(crate) end: usize,
+}
+
+/// `hanneddois_streams`
+#[repr(C)]
+#[derive(Debug)]
+pub(crate) struct Streams {
+    pub(crate) inside: *mut c_void,
+}
+
+/// `hanneddois_end`
+#[repr(C)]
+#[derive(Clone, Copy, Debug, Default)]
+pub(crate) struct End {
+    pub(crate) pattern: usize,
     pub(crate) end: usize,
 }
 
@@ -149,6 +166,40 @@ extern "C" {
         count: *mut usize,
         error: *mut Error,
     ) -> u32;
+    pub(crate) fn hanneddois_streams_new(
+        streams: *mut Streams,
+        texts: *const u8,
+        texts_length: usize,
+        lengths: *const usize,
+        count: usize,
+        options: *const Options,
+        error: *mut Error,
+    ) -> u32;
+    pub(crate) fn hanneddois_streams_free(streams: *mut Streams);
+    pub(crate) fn hanneddois_streams_memory_usage(streams: *mut Streams) -> usize;
+    pub(crate) fn hanneddois_stream_new(streams: *mut Streams, stream: *mut usize) -> u32;
+    pub(crate) fn hanneddois_stream_feed(
+        streams: *mut Streams,
+        stream: usize,
+        bytes: *const u8,
+        length: usize,
+        ends: *mut End,
+        ends_length: usize,
+        taken: *mut usize,
+        count: *mut usize,
+        error: *mut Error,
+    ) -> u32;
+    pub(crate) fn hanneddois_stream_close(
+        streams: *mut Streams,
+        stream: usize,
+        ends: *mut End,
+        ends_length: usize,
+        count: *mut usize,
+        error: *mut Error,
+    ) -> u32;
+    pub(crate) fn hanneddois_stream_reset(streams: *mut Streams, stream: usize) -> u32;
+    pub(crate) fn hanneddois_stream_clone(streams: *mut Streams, from: usize, to: *mut usize) -> u32;
+    pub(crate) fn hanneddois_stream_free(streams: *mut Streams, stream: usize) -> u32;
     pub(crate) fn hanneddois_error_text(error: *const Error, text: *mut u8, text_length: usize) -> usize;
     pub(crate) fn hanneddois_memory_usage(regex: *mut Regex) -> usize;
     pub(crate) fn hanneddois_clear_count(regex: *mut Regex) -> usize;

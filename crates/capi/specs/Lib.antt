@@ -4,3 +4,4 @@ pub mod Compiled
 pub mod Failures
 pub mod Groups
 pub mod Replacing
+pub mod Streams

@@ -48,6 +48,9 @@ pub(crate) const HAYSTACK_NOT_UTF8: u32 = 12;
 /// The output of a call is longer than the room for it.
 pub(crate) const OUTPUT_TOO_SMALL: u32 = 13;
 
+/// The stream was closed before.
+pub(crate) const CLOSED: u32 = 14;
+
 /// An error in numbers. Fields that don't apply to its status are 0.
 #[repr(C)]
 #[derive(Clone, Copy, Drop)]

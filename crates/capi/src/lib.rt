@@ -11,6 +11,7 @@ mod failure;
 mod groups;
 mod options;
 mod replacing;
+mod stream_sets;
 mod texts;
 mod words;
 
@@ -19,5 +20,6 @@ pub use compiled::Compiled;
 pub use failure::{Failure, NewError};
 pub use meta_regex::{FoundMatch, SearchError};
 pub use options::Options;
+pub use stream_sets::streams_of;
 pub use texts::{accepts, patterns_of};
 pub use words::error_text;

@@ -3,8 +3,9 @@ ghost use Rattle.std.specs.Prelude.{◌≡◌, slice_set};
 ghost use Rattle.meta_regex.specs.Regexes.{overlaid};
 
 use crate::failure::{
-    BAD_ARGUMENT, CAPACITY_TOO_SMALL, EMPTY_LOOP, Failure, HAYSTACK_NOT_UTF8, NESTS_TOO_DEEP,
-    NO_MEMORY, NOT_UTF8, OUTPUT_TOO_SMALL, SYNTAX_ERROR, TOO_LARGE, UNSUPPORTED, kind_of,
+    BAD_ARGUMENT, CAPACITY_TOO_SMALL, CLOSED, EMPTY_LOOP, Failure, HAYSTACK_NOT_UTF8,
+    NESTS_TOO_DEEP, NO_MEMORY, NOT_UTF8, OUTPUT_TOO_SMALL, SYNTAX_ERROR, TOO_LARGE, UNSUPPORTED,
+    kind_of,
 };
 
 /// The message for what is wrong with a pattern.
@@ -27,9 +28,10 @@ fn words_of(failure: &Failure) -> &'static str {
             "the pattern has an unbounded repetition whose body can match the empty string",
         TOO_LARGE => "the automata are larger than they may be",
         CAPACITY_TOO_SMALL => "a cache may take fewer bytes than it needs",
-        UNSUPPORTED => "words by characters need their automata to give up at bytes above 0x7F",
+        UNSUPPORTED => "a Unicode word boundary can't be decided in a stream",
         HAYSTACK_NOT_UTF8 => "the haystack is no UTF-8",
         OUTPUT_TOO_SMALL => "the output is longer than the room for it",
+        CLOSED => "the stream is closed",
         _ => "unknown status",
     }
 }

@@ -1,3 +1,5 @@
+pub mod ClassNames
+pub mod Ignoring
 pub mod Matching
 pub mod Paths
 pub mod Reading

@@ -1,5 +1,6 @@
 -- What a glob matches: names, as lists of characters.
-use Rattle.std.specs.Prelude.{ℕ, ◌==◌, Bool, true, false, ◌&&◌, ◌||◌, not, nat_le, List, [], ◌∷◌, ◌++◌, map, if◌then◌else◌}
+use Rattle.std.specs.Prelude.{◌≡◌, ℕ, ◌==◌, Bool, true, false, ◌&&◌, ◌||◌, not, nat_le, List, [], ◌∷◌, ◌++◌, map, if◌then◌else◌}
+use Rattle.std.specs.Char.{to_ascii_lowercase, to_ascii_uppercase}
 use Rattle.std.specs.List.{list_any}
 use Rattle.std.specs.declared.alloc.Global.{Global}
 use Rattle.std.specs.declared.vec.Vec.{Vec}
@@ -9,10 +10,12 @@ use Rattle.globs.specs.declared.item.Item.TheVariants.{One as TheOne, Set as The
 
 -- ---- the parts of a glob
 
--- A set of characters: those in one of the ranges, or, if it is negated, the others. If `slash` is false, a slash isn't in it.
+-- A set of characters: those in one of the ranges, or, if it is negated, the others. If `slash` is false, a slash isn't in it. If `folds`, a
+-- letter of ASCII is in a range if it is in the other case.
 pub record Class : Type 0 where
   pub negated : Bool
   pub slash : Bool
+  pub folds : Bool
   pub ranges : List (ℕ × ℕ)
 
 pub data Item : Type 0 where
@@ -40,8 +43,17 @@ is_slash c = c == 47
 abbrev pub is_within : ℕ → ℕ × ℕ → Bool
 is_within c range = nat_le range.0 c && nat_le c range.1
 
+abbrev pub is_within_any : List (ℕ × ℕ) → ℕ → Bool
+is_within_any ranges c = list_any (is_within c) ranges
+
+abbrev pub is_folded_within : List (ℕ × ℕ) → ℕ → Bool
+is_folded_within ranges c = is_within_any ranges (to_ascii_lowercase c) || is_within_any ranges (to_ascii_uppercase c)
+
+abbrev pub is_in_any_range : Class → ℕ → Bool
+is_in_any_range class c = is_within_any class.ranges c || (class.folds && is_folded_within class.ranges c)
+
 abbrev pub is_in : Class → ℕ → Bool
-is_in class c = (class.slash || not (is_slash c)) && (if class.negated then not (list_any (is_within c) class.ranges) else list_any (is_within c) class.ranges)
+is_in class c = (class.slash || not (is_slash c)) && (if class.negated then not (is_in_any_range class c) else is_in_any_range class c)
 
 -- Whether the item takes this character. The last kind takes characters by another rule.
 abbrev pub takes : Item → ℕ → Bool
@@ -102,10 +114,24 @@ matches glob = sections_then glob is_end
 abbrev pub matches_part : Sections → List ℕ → Bool
 matches_part glob = folders (matches glob)
 
+-- ---- what can't be matched
+
+-- Whether an item may match something that ends in this character.
+abbrev pub may_take : Item → ℕ → Bool
+may_take (One x) c = c == x
+may_take (Set class) c = is_in class c
+may_take Star c = true
+may_take Anything c = true
+may_take Folders c = true
+
+-- Neither nothing nor what ends in this character is matched.
+abbrev pub Fails : ℕ → (List ℕ → Bool) → Type 0
+Fails c rest = (rest [] ≡ false) × ((before : List ℕ) → rest (before ++ c ∷ []) ≡ false)
+
 -- ---- the parts as the code has them
 
 abbrev pub class_of : TheClass → Class
-class_of c = record { negated = c.negated; slash = c.slash; ranges = c.ranges.items }
+class_of c = record { negated = c.negated; slash = c.slash; folds = c.folds; ranges = c.ranges.items }
 
 abbrev pub item_of : TheItem → Item
 item_of (TheOne c) = One c

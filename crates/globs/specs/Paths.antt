@@ -1,5 +1,5 @@
 -- Parts of names, of paths and of the lines of a file of globs, as lists of characters.
-use Rattle.std.specs.Prelude.{ℕ, ◌+◌, ◌==◌, Bool, ◌&&◌, ◌||◌, nat_le, List, [], ◌∷◌, length, take, drop, slice_index, if◌then◌else◌}
+use Rattle.std.specs.Prelude.{ℕ, ◌+◌, ◌==◌, Bool, ◌&&◌, ◌||◌, nat_le, List, [], ◌∷◌, length, take, drop, slice_index, if◌then◌else◌, ◌++◌}
 use Rattle.globs.specs.Matching.{is_slash}
 
 -- a white space character of ASCII
@@ -33,3 +33,7 @@ file_name path = drop (name_begin 0 0 path) path
 abbrev pub without_dot : List ℕ → List ℕ
 without_dot path =
     if nat_le 2 (length path) && (slice_index path 0 == 46 && is_slash (slice_index path 1)) then drop 2 path else path
+
+-- The full path of what is at a path in the folder at `root`, whose full path is `full`.
+abbrev pub full_path : List ℕ → List ℕ → List ℕ → List ℕ
+full_path full root path = full ++ drop (kept_len is_slash 0 0 root) path

@@ -1,11 +1,12 @@
 -- Rules that choose files: globs in the order in which they were given, of which the last one that matches decides.
-use Rattle.std.specs.Prelude.{ℕ, ◌-◌, ◌==◌, Bool, false, ◌&&◌, ◌||◌, not, nat_lt, List, [], ◌∷◌, length, take, drop, slice_index, Option, Some, None, if◌then◌else◌}
+use Rattle.std.specs.Prelude.{ℕ, ◌-◌, ◌==◌, Bool, true, false, ◌&&◌, ◌||◌, not, nat_lt, List, [], ◌∷◌, length, take, drop, slice_index, Option, Some, None, if◌then◌else◌}
 use Rattle.std.specs.List.{list_any}
 use Rattle.globs.specs.Matching.{Sections, is_slash, matches, matches_part, sections_of}
 use Rattle.globs.specs.Paths.{folder_name, without_end_space}
 use Rattle.globs.specs.Reading.{read}
 use Rattle.globs.specs.declared.reading.Fault.{Fault}
-use Rattle.globs.specs.declared.reading.Syntax.TheVariants.{Fnmatch, Globset}
+use Rattle.globs.specs.declared.reading.Syntax.{Syntax}
+use Rattle.globs.specs.declared.reading.Syntax.TheVariants.{Fnmatch, Globset, Folded}
 use Rattle.globs.specs.declared.rules.Rule.{Rule as TheRule}
 
 pub record Rule : Type 0 where
@@ -70,12 +71,17 @@ ends_in_slash s = nat_lt 0 (length s) && is_slash (slice_index s (length s - 1))
 abbrev pub without_last_slash : List ℕ → List ℕ
 without_last_slash s = if ends_in_slash s then take (length s - 1) s else s
 
+-- The syntax of --glob, or of --iglob and with --glob-case-insensitive.
+abbrev pub glob_syntax : Bool → Syntax
+glob_syntax false = Globset
+glob_syntax true = Folded
+
 -- The glob in an argument, without a `!` and a slash at the beginning and a slash at the end; and its first fault.
 abbrev pub glob_body : List ℕ → List ℕ
 glob_body text = without_first 47 (without_last_slash (without_first 33 text))
 
-abbrev pub glob_fault : List ℕ → Option Fault
-glob_fault text = (read Globset (glob_body text)).fault
+abbrev pub glob_fault : Bool → List ℕ → Option Fault
+glob_fault folds text = (read (glob_syntax folds) (glob_body text)).fault
 
 -- A `!` at the beginning leaves out what the glob matches. With a slash at the end it matches folders alone. Without another slash it
 -- matches at any depth.
@@ -87,8 +93,8 @@ rule_with glob text = record {
   anywhere = not (list_any is_slash (without_last_slash (without_first 33 text)));
 }
 
-abbrev pub glob_rule : List ℕ → Rule
-glob_rule text = rule_with (read Globset (glob_body text)).sections text
+abbrev pub glob_rule : Bool → List ℕ → Rule
+glob_rule folds text = rule_with (read (glob_syntax folds) (glob_body text)).sections text
 
 -- The rule of a glob of a type of files.
 abbrev pub type_rule : Bool → List ℕ → Rule

@@ -1,6 +1,6 @@
 //! Tables of what the rest of a glob matches: a value for each end of a name, the shortest end first.
 ghost use Rattle.std.specs.Prelude.{◌≡◌, ◌+◌, ◌||◌, ◌∷◌, [], ℕ, Bool, true, false, List, IfOk, length, map};
-ghost use Rattle.globs.specs.Matching.{at_ends, either_then, folders, item_of, item_then, items_then, many, matches, matches_part, one, section_of, sections_of, takes};
+ghost use Rattle.globs.specs.Matching.{at_ends, either_then, Fails, folders, is_end, item_of, item_then, items_then, many, matches, matches_part, may_take, one, section_of, sections_of, takes};
 
 use crate::item::{Item, is_slash};
 use std::alloc::{AllocError, Global};
@@ -207,6 +207,62 @@ pub fn glob_table(
         table = section_table(alloc, &sections[i], name, &table)?;
     }
     Ok(table)
+}
+
+/// Whether an item may match something that ends in this character.
+fn may_take(item: &Item, c: char) -> bool
+    ensures { result ≡ may_take (item_of item.now) c }
+{
+    match item {
+        Item::One(x) => c == *x,
+        Item::Set(class) => class.has(c),
+        Item::Star => true,
+        Item::Anything => true,
+        Item::Folders => true,
+    }
+}
+
+/// Whether items may match a name that ends in this character.
+fn may_end(items: &[Item], c: char) -> bool
+    ensures { result ≡ false → Fails c (items_then (map item_of items.now) is_end) }
+{
+    if items.len() == 0 {
+        return true;
+    }
+    let last = items.len() - 1;
+    may_take(&items[last], c)
+}
+
+/// Whether alternatives may match a name that ends in this character, if there is one alone.
+fn may_end_section(section: &[Vec<Item>], c: char) -> bool
+    ensures { result ≡ false → Fails c (either_then (section_of section.now) is_end) }
+{
+    if section.len() == 1 {
+        return may_end(&section[0], c);
+    }
+    true
+}
+
+/// Whether sections may match a name that ends in this character, if there is one alone.
+fn may_match_end(sections: &[Vec<Vec<Item>>], c: char) -> bool
+    ensures { result ≡ false → Fails c (matches (sections_of sections.now)) }
+{
+    if sections.len() == 1 {
+        return may_end_section(&sections[0], c);
+    }
+    true
+}
+
+/// Whether the sections may match a name or what is after one of its slashes. Most names are left out by their last character.
+pub fn may_match(sections: &[Vec<Vec<Item>>], name: &[char]) -> bool
+    ensures all { result ≡ false → matches (sections_of sections.now) name.now ≡ false }
+    ensures part { result ≡ false → matches_part (sections_of sections.now) name.now ≡ false }
+{
+    if name.len() == 0 {
+        return true;
+    }
+    let last = name.len() - 1;
+    may_match_end(sections, name[last])
 }
 
 /// Whether the sections match all of a name.

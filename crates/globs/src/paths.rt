@@ -1,9 +1,11 @@
 //! Parts of names, of paths and of the lines of a file of globs.
-ghost use Rattle.std.specs.Prelude.{◌≡◌, ◌≤◌, length};
+ghost use Rattle.std.specs.Prelude.{◌≡◌, ◌≤◌, IfOk, drop, length};
 ghost use Rattle.globs.specs.Matching.{is_slash};
-ghost use Rattle.globs.specs.Paths.{file_name, folder_name, is_space, kept_len, without_dot, without_end_space};
+ghost use Rattle.globs.specs.Paths.{file_name, folder_name, full_path, is_space, kept_len, without_dot, without_end_space};
 
 use crate::item::is_slash;
+use crate::sets::push_all;
+use std::alloc::{AllocError, Global};
 
 /// Whether this is a white space character of ASCII, as `isspace` of C has it.
 fn is_space(c: char) -> bool
@@ -70,4 +72,29 @@ pub fn without_dot(path: &[char]) -> &[char]
         return &path[2..];
     }
     path
+}
+
+/// A path from this character on.
+pub fn from(path: &[char], at: usize) -> &[char]
+    ensures { result.now ≡ drop at path.now }
+{
+    match path.get(at..) {
+        Some(rest) => rest,
+        None => &[],
+    }
+}
+
+/// The full path of what is at a path in the folder at `root`, whose full path is `full`.
+pub fn full_path(
+    alloc: Global,
+    full: &[char],
+    root: &[char],
+    path: &[char],
+) -> Result<Vec<char>, AllocError>
+    ensures { IfOk result (λ v. v.items ≡ full_path full.now root.now path.now) }
+{
+    let mut all = Vec::new(alloc);
+    push_all(&mut all, full)?;
+    push_all(&mut all, from(path, len_without_slashes(root)))?;
+    Ok(all)
 }

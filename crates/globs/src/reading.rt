@@ -1,12 +1,12 @@
 //! Reads globs, character by character.
 ghost use Rattle.std.specs.Prelude.{◌≡◌, ◌+◌, ◌≤◌, ◌++◌, ◌∷◌, [], OnOk, IfOk, List, true, length, map};
 ghost use Rattle.globs.specs.Matching.{Set, class_of, item_of, is_slash, section_of, sections_of};
-ghost use Rattle.globs.specs.Reading.{add, add_all, add_grouping, add_in_set, add_other, add_plain, add_raw, add_star, all_ranges, add_unescaped, any_of, are_folders, class_by, begin_group, begin_set};
+ghost use Rattle.globs.specs.Reading.{add, add_all, add_grouping, add_in_set, add_other, add_plain, add_raw, add_star, all_ranges, add_unescaped, any_of, are_folders, are_two, class_by, begin_group, begin_set};
 ghost use Rattle.globs.specs.Reading.{check_set, close_group, end_all, end_alternative, end_escape, end_folders, end_group, end_open_group, end_open_set, end_section, end_set, end_stars, ends_here};
-ghost use Rattle.globs.specs.Reading.{first_fault, has_reversed, more_stars, no_reading, read, reading_of, set_of, stars_item, with_alternative, with_fault, with_item, with_section};
+ghost use Rattle.globs.specs.Reading.{first_fault, has_reversed, more_stars, no_reading, plain_item, read, reading_of, set_of, stars_item, with_alternative, with_fault, with_item, with_section};
 
 use crate::item::{Class, Item, is_slash};
-use crate::sets::{SetReader, has_reversed, is_globset};
+use crate::sets::{SetReader, folds_case, has_reversed, is_fnmatch, is_gitignore, is_globset};
 use std::alloc::{AllocError, Global};
 use std::mem;
 
@@ -17,6 +17,10 @@ pub enum Syntax {
     Fnmatch,
     /// As the crate `globset` has it: stars don't match slashes, `**` stands for folders, and braces have alternatives.
     Globset,
+    /// That of `globset`, where letters of ASCII match in either case.
+    Folded,
+    /// As git has it in ignore files: neither stars nor sets match slashes, and `**` stands for folders.
+    Gitignore,
 }
 
 /// Why a glob is rejected.
@@ -85,9 +89,34 @@ fn any_of(alloc: Global, syntax: Syntax) -> Class
 {
     Class {
         negated: true,
-        slash: !is_globset(syntax),
+        slash: is_fnmatch(syntax),
+        folds: false,
         ranges: Vec::new(alloc),
     }
+}
+
+/// The item of a character that means itself.
+fn plain_item(alloc: Global, syntax: Syntax, c: char) -> Result<Item, AllocError>
+    ensures { IfOk result (λ item. item_of item ≡ plain_item syntax c) }
+{
+    if !folds_case(syntax) {
+        return Ok(Item::One(c));
+    }
+    let mut ranges = Vec::new(alloc);
+    ranges.push((c, c))?;
+    Ok(Item::Set(Class {
+        negated: false,
+        slash: true,
+        folds: true,
+        ranges,
+    }))
+}
+
+/// Whether these are two stars, or more in git's syntax.
+fn are_two(syntax: Syntax, stars: usize) -> bool
+    ensures { result ≡ are_two syntax stars }
+{
+    stars == 2 || is_gitignore(syntax) && stars == 3
 }
 
 impl Reader {
@@ -131,13 +160,13 @@ impl Reader {
     fn are_folders(&self, syntax: Syntax) -> bool
         ensures { result ≡ are_folders syntax (reading_of self.now) }
     {
-        is_globset(syntax) && self.bounded && self.stars == 2
+        !is_fnmatch(syntax) && self.bounded && are_two(syntax, self.stars)
     }
 
     fn stars_item(&self, syntax: Syntax, at_end: bool) -> Item
         ensures { item_of result ≡ stars_item syntax (reading_of self.now) at_end }
     {
-        if !is_globset(syntax) || at_end && self.are_folders(syntax) {
+        if is_fnmatch(syntax) || at_end && self.are_folders(syntax) {
             return Item::Anything;
         }
         Item::Star
@@ -184,19 +213,20 @@ impl Reader {
     }
 
     /// Adds a character that means itself.
-    fn add_plain(&mut self, c: char) -> Result<(), AllocError>
-        ensures { OnOk result (reading_of self.new ≡ add_plain c (reading_of self.old)) }
+    fn add_plain(&mut self, alloc: Global, syntax: Syntax, c: char) -> Result<(), AllocError>
+        ensures { OnOk result (reading_of self.new ≡ add_plain syntax c (reading_of self.old)) }
     {
         self.at_start = is_slash(c);
-        push_item(&mut self.items, Item::One(c))
+        let item = plain_item(alloc, syntax, c)?;
+        push_item(&mut self.items, item)
     }
 
     /// Adds the set that was read.
-    fn push_set(&mut self, alloc: Global) -> Result<bool, AllocError>
-        ensures pushed { OnOk result (reading_of self.new ≡ with_item (Set (class_by (set_of self.old.set))) (reading_of self.old)) }
+    fn push_set(&mut self, alloc: Global, syntax: Syntax) -> Result<bool, AllocError>
+        ensures pushed { OnOk result (reading_of self.new ≡ with_item (Set (class_by syntax (set_of self.old.set))) (reading_of self.old)) }
         ensures reversed { IfOk result (λ is. is ≡ has_reversed (all_ranges (set_of self.old.set))) }
     {
-        let class = self.set.class(alloc)?;
+        let class = self.set.class(alloc, syntax)?;
         let is_reversed = has_reversed(&class.ranges);
         self.push(Item::Set(class))?;
         Ok(is_reversed)
@@ -205,7 +235,7 @@ impl Reader {
     fn end_set(&mut self, alloc: Global, syntax: Syntax, at: usize) -> Result<(), AllocError>
         ensures { OnOk result (reading_of self.new ≡ end_set syntax at (reading_of self.old)) }
     {
-        let is_reversed = self.push_set(alloc)?;
+        let is_reversed = self.push_set(alloc, syntax)?;
         if is_globset(syntax) && is_reversed {
             self.fail(FaultKind::ReversedRange, at);
         }
@@ -225,9 +255,10 @@ impl Reader {
         ensures { OnOk result (reading_of self.new ≡ add_in_set syntax (reading_of self.old) at c) }
     {
         if self.set.closes(c) {
+            self.set.end(alloc)?;
             return self.end_set(alloc, syntax, at);
         }
-        self.set.add(syntax, c)
+        self.set.add(alloc, syntax, c)
     }
 
     fn end_alternative(&mut self, alloc: Global) -> Result<(), AllocError>
@@ -306,7 +337,7 @@ impl Reader {
         if self.in_group && c == ',' {
             return self.end_alternative(alloc);
         }
-        self.add_plain(c)
+        self.add_plain(alloc, syntax, c)
     }
 
     /// Reads a character that is no star, after the stars before it.
@@ -370,7 +401,7 @@ impl Reader {
         }
         if self.escaped {
             self.escaped = false;
-            return self.add_plain(c);
+            return self.add_plain(alloc, syntax, c);
         }
         self.add_unescaped(alloc, syntax, at, c)
     }
@@ -389,10 +420,11 @@ impl Reader {
     fn add_raw(&mut self, alloc: Global, syntax: Syntax) -> Result<(), AllocError>
         ensures { OnOk result (reading_of self.new ≡ add_raw syntax (reading_of self.old)) }
     {
+        self.set.end(alloc)?;
         let set = mem::replace(&mut self.set, SetReader::new(alloc));
         self.in_set = false;
         self.has_sets = false;
-        self.add_plain('[')?;
+        self.add_plain(alloc, syntax, '[')?;
         self.add_all(alloc, syntax, &set.raw)
     }
 
@@ -402,25 +434,25 @@ impl Reader {
         if !self.in_set {
             return Ok(());
         }
-        if is_globset(syntax) {
+        if !is_fnmatch(syntax) {
             self.fail(FaultKind::UnclosedSet, self.opened);
             return Ok(());
         }
         self.add_raw(alloc, syntax)
     }
 
-    fn end_escape(&mut self, syntax: Syntax) -> Result<(), AllocError>
+    fn end_escape(&mut self, alloc: Global, syntax: Syntax) -> Result<(), AllocError>
         ensures { OnOk result (reading_of self.new ≡ end_escape syntax (reading_of self.old)) }
     {
         if !self.escaped {
             return Ok(());
         }
-        if is_globset(syntax) {
+        if !is_fnmatch(syntax) {
             self.fail(FaultKind::DanglingEscape, self.opened);
             return Ok(());
         }
         self.escaped = false;
-        self.add_plain('\\')
+        self.add_plain(alloc, syntax, '\\')
     }
 
     fn end_open_group(&mut self)
@@ -435,7 +467,7 @@ impl Reader {
         ensures { OnOk result (reading_of self.new ≡ end_all syntax (reading_of self.old)) }
     {
         self.end_open_set(alloc, syntax)?;
-        self.end_escape(syntax)?;
+        self.end_escape(alloc, syntax)?;
         self.end_stars(syntax, true)?;
         self.end_open_group();
         self.end_section(alloc)

@@ -1,14 +1,15 @@
 //! Rules that choose files: globs in the order in which they were given, of which the last one that matches decides.
-ghost use Rattle.std.specs.Prelude.{◌≡◌, ◌++◌, OnOk, IfOk, None, map, IfErr, Some};
+ghost use Rattle.std.specs.Prelude.{◌≡◌, ◌++◌, ◌∷◌, [], OnOk, IfOk, MatchOption, None, false, map, IfErr, Some};
 ghost use Rattle.std.specs.Str.{chars};
 ghost use Rattle.std.specs.List.{list_any};
 ghost use Rattle.globs.specs.Matching.{is_slash, sections_of};
 ghost use Rattle.globs.specs.Reading.{read};
-ghost use Rattle.globs.specs.Rules.{applies, begins, chooses, decided, ends_in_slash, excluded, folder_rule, glob_body, glob_fault, glob_rule, grep_rule, rule_of, rule_with, skips, skips_by, type_rule, without_first, without_last_slash};
+ghost use Rattle.globs.specs.Ignoring.{ignore_rule};
+ghost use Rattle.globs.specs.Rules.{applies, begins, chooses, decided, ends_in_slash, excluded, folder_rule, glob_body, glob_fault, glob_rule, glob_syntax, grep_rule, rule_of, rule_with, skips, skips_by, type_rule, without_first, without_last_slash};
 ghost use Rattle.globs.specs.declared.reading.Syntax.TheVariants.{Globset};
 
 use crate::item::{Item, is_slash};
-use crate::matching::{matches, matches_part};
+use crate::matching::{matches, matches_part, may_match};
 use crate::paths::{folder_name, without_end_space};
 use crate::reading::{Fault, Syntax, read};
 use std::alloc::{AllocError, Global};
@@ -25,7 +26,7 @@ pub struct Rule {
     anywhere: bool,
 }
 
-fn begins(text: &[char], c: char) -> bool
+pub fn begins(text: &[char], c: char) -> bool
     ensures { result ≡ begins c text.now }
 {
     match text.first() {
@@ -35,7 +36,7 @@ fn begins(text: &[char], c: char) -> bool
 }
 
 /// The text without this character, if it begins with it.
-fn without_first(text: &[char], c: char) -> &[char]
+pub fn without_first(text: &[char], c: char) -> &[char]
     ensures { result.now ≡ without_first c text.now }
 {
     if begins(text, c) {
@@ -87,6 +88,16 @@ fn rule_with(glob: Vec<Vec<Vec<Item>>>, text: &[char]) -> Rule
     }
 }
 
+fn glob_syntax(folds: bool) -> Syntax
+    ensures { result ≡ glob_syntax folds }
+{
+    if folds {
+        Syntax::Folded
+    } else {
+        Syntax::Globset
+    }
+}
+
 impl Rule {
     /// The rule of `--include`, if it selects, or of `--exclude` or `--exclude-dir`.
     pub fn of_grep(alloc: Global, selects: bool, text: &[char]) -> Result<Rule, AllocError>
@@ -121,13 +132,28 @@ impl Rule {
         })
     }
 
-    /// The rule of `--glob`, or the first fault of its glob.
-    pub fn of_glob(alloc: Global, text: &[char]) -> Result<Result<Rule, Fault>, AllocError>
-        ensures rule { IfOk result (λ r. IfOk r (λ rule. rule_of rule ≡ glob_rule text.now)) }
-        ensures sound { IfOk result (λ r. IfOk r (λ rule. glob_fault text.now ≡ None)) }
-        ensures fault { IfOk result (λ r. IfErr r (λ fault. glob_fault text.now ≡ Some fault)) }
+    /// The rule of a line of an ignore file, which selects what is to be ignored. There is none if its glob has a fault.
+    pub fn of_ignore(alloc: Global, text: &[char]) -> Result<Option<Rule>, AllocError>
+        ensures { IfOk result (λ o. MatchOption o (ignore_rule text.now ≡ []) (λ rule. ignore_rule text.now ≡ rule_of rule ∷ [])) }
     {
-        let reader = read(alloc, Syntax::Globset, glob_body(text))?;
+        let reader = read(alloc, Syntax::Gitignore, glob_body(text))?;
+        match reader.fault {
+            Some(_) => Ok(None),
+            None => Ok(Some(rule_with(reader.sections, text))),
+        }
+    }
+
+    /// The rule of `--glob`, or the first fault of its glob. If it folds, letters of ASCII match in either case.
+    pub fn of_glob(
+        alloc: Global,
+        folds: bool,
+        text: &[char],
+    ) -> Result<Result<Rule, Fault>, AllocError>
+        ensures rule { IfOk result (λ r. IfOk r (λ rule. rule_of rule ≡ glob_rule folds text.now)) }
+        ensures sound { IfOk result (λ r. IfOk r (λ rule. glob_fault folds text.now ≡ None)) }
+        ensures fault { IfOk result (λ r. IfErr r (λ fault. glob_fault folds text.now ≡ Some fault)) }
+    {
+        let reader = read(alloc, glob_syntax(folds), glob_body(text))?;
         match reader.fault {
             Some(fault) => Ok(Err(fault)),
             None => Ok(Ok(rule_with(reader.sections, text))),
@@ -144,7 +170,7 @@ impl Rule {
     ) -> Result<bool, AllocError>
         ensures { IfOk result (λ is. is ≡ applies (rule_of self.now) is_folder part name.now) }
     {
-        if self.only_folders && !is_folder {
+        if self.only_folders && !is_folder || !may_match(&self.glob, name) {
             return Ok(false);
         }
         if part || self.anywhere {
@@ -154,17 +180,18 @@ impl Rule {
     }
 }
 
-/// What the last rule says that matches, if one does.
-fn decided(
+/// What the last rule says that matches, or else what was known before.
+pub fn decided(
     alloc: Global,
+    known: Option<bool>,
     rules: &[Rule],
     is_folder: bool,
     part: bool,
     name: &[char],
 ) -> Result<Option<bool>, AllocError>
-    ensures { IfOk result (λ known. known ≡ decided None (map rule_of rules.now) is_folder part name.now) }
+    ensures { IfOk result (λ is. is ≡ decided known (map rule_of rules.now) is_folder part name.now) }
 {
-    let mut known = None;
+    let mut known = known;
     for rule in rules {
         if rule.applies(alloc, is_folder, part, name)? {
             known = Some(rule.selects);
@@ -190,11 +217,12 @@ fn skips_by(known: Option<bool>, rules: &[Rule]) -> bool
 pub fn skips(alloc: Global, rules: &[Rule], part: bool, name: &[char]) -> Result<bool, AllocError>
     ensures { IfOk result (λ is. is ≡ skips (map rule_of rules.now) part name.now) }
 {
-    let known = decided(alloc, rules, false, part, name)?;
+    let known = decided(alloc, None, rules, false, part, name)?;
     Ok(skips_by(known, rules))
 }
 
-fn any_selects(rules: &[Rule]) -> bool
+/// Whether one of the rules chooses what it matches.
+pub fn any_selects(rules: &[Rule]) -> bool
     ensures { result ≡ list_any (λ r. r.selects) (map rule_of rules.now) }
 {
     for rule in rules {
@@ -203,6 +231,18 @@ fn any_selects(rules: &[Rule]) -> bool
         }
     }
     false
+}
+
+/// What the rules of ignore files say of a path, if one matches.
+pub fn decides(
+    alloc: Global,
+    rules: &[Rule],
+    is_folder: bool,
+    path: &[char],
+) -> Result<Option<bool>, AllocError>
+    ensures { IfOk result (λ known. known ≡ decided None (map rule_of rules.now) is_folder false path.now) }
+{
+    decided(alloc, None, rules, is_folder, false, path)
 }
 
 /// Whether the rules of `--glob` choose what has this path: a file, or a folder that is to be searched.
@@ -214,7 +254,7 @@ pub fn chooses(
 ) -> Result<bool, AllocError>
     ensures { IfOk result (λ is. is ≡ chooses (map rule_of rules.now) is_folder path.now) }
 {
-    match decided(alloc, rules, is_folder, false, path)? {
+    match decided(alloc, None, rules, is_folder, false, path)? {
         Some(selects) => Ok(selects),
         None => Ok(is_folder || !any_selects(rules)),
     }

@@ -16,6 +16,7 @@ mod NeededLemmas
 mod NumberLemmas
 mod NumberedLemmas
 mod PassLemmas
+mod PreviewLemmas
 mod RegexLemmas
 mod ReplaceLemmas
 mod ReportRows
@@ -33,4 +34,5 @@ mod WriteLemmas
 pub mod LineCutLemmas
 pub mod CandidateLemmas
 mod LiteralLemmas
+mod LongLineLemmas
 mod PartLemmas

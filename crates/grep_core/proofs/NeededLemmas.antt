@@ -59,7 +59,7 @@ module _ (w : OutputOptions) (f : LineMatcher) where
     same_line true is needs role line =
         ap (λ (s : ShownLine). printed_line w name role (record line { content = s.content }) s.spans) (same_shown (needs ∙ is) line.content)
     same_line false is needs role line =
-        let none = none_replaces w.color w.columns w.each_match (is_some w.replacement) is in
+        let none = none_replaces (is_some w.color) w.columns w.each_match (is_some w.replacement) is in
         ap₂ (λ l s. printed_with w name role (record line { content = l }) s)
         (unreplaced w.replacement (with_needed_spans w f) line.content none ∙ sym (unreplaced w.replacement f line.content none))
         (none_shown w role (shown_spans w (with_needed_spans w f) line) is ∙ sym (none_shown w role (shown_spans w f line) is))

@@ -67,11 +67,14 @@ plain = record {
   offsets = false;
   context = None;
   most = None;
-  color = false;
+  color = None;
+  match_separator = None;
+  context_separator = None;
   zero_names = false;
   initial_tab = false;
   trim = false;
   most_bytes = None;
+  preview = false;
   width = 0;
   groups = Hyphens;
   replacement = None;
@@ -278,3 +281,14 @@ last_line_kept = refl
 
 kept_unasked : searched false (ended (codes "a" ++ 13 ∷ [])) ≡ codes "a" ++ 13 ∷ []
 kept_unasked = refl
+
+-- -M3 --max-columns-preview
+previewed : report (record plain { most_bytes = Some 3; preview = true }) letters (codes "t") false NonePrinted text
+    ≡ line (codes "a1") (line (codes "a2  [... omitted end of long line]") [])
+previewed = refl
+
+-- -H -m1 --field-match-separator=.., in any bytes
+separated_as_given : (given : Bor (List ℕ)) → report (record plain { match_separator = Some given; most = Some 1 }) letters
+    (codes "t") true NonePrinted text
+    ≡ line (codes "t" ++ (given.now ++ codes "a1")) []
+separated_as_given given = Prim.search (rules, common_steps)

@@ -1,5 +1,6 @@
 pub mod Lines
 pub mod Selecting
+pub mod Colors
 pub mod Printing
 pub mod Report
 pub mod Replacing
@@ -19,3 +20,4 @@ pub mod BoundedTrees
 pub mod Candidates
 pub mod Edges
 pub mod LiteralLines
+pub mod LongLines

@@ -1,7 +1,11 @@
 -- How lines are printed, in the format of GNU grep.
 use Rattle.std.specs.Prelude.{ℕ, zero, suc, ◌+◌, ◌-◌, ◌==◌, Bool, true, false, not, ◌&&◌, ◌||◌, nat_lt, List, [], ◌∷◌, ◌++◌, codes, decimal, drop, slice_range, length}
-use Rattle.std.specs.Prelude.{map, Option, Some, None, is_some, replicate, if◌then◌else◌}
+use Rattle.std.specs.Prelude.{count_by, get_or, map, Option, Some, None, is_some, option_map, replicate, take, unwrap_or, if◌then◌else◌}
 use Rattle.std.specs.List.{flat_map}
+use Rattle.grep_core.specs.Colors.{coloured, has_color, line_part, marked_from, match_part}
+use Rattle.grep_core.specs.declared.colors.Colors.{Colors}
+use Rattle.grep_core.specs.declared.colors.Part.{Part}
+use Rattle.grep_core.specs.declared.colors.Part.TheVariants.{Name, Number, Offset, Separator}
 use Rattle.grep_core.specs.declared.line.Line.{Line}
 use Rattle.grep_core.specs.declared.role.Role.{Role}
 use Rattle.grep_core.specs.declared.role.Role.TheVariants.{Selected}
@@ -11,19 +15,13 @@ use Rattle.grep_core.specs.declared.output_options.GroupSeparator.TheVariants.{H
 use Rattle.grep_core.specs.declared.output_options.OutputOptions.{OutputOptions}
 use Rattle.grep_core.specs.Lines.{TextLine}
 
--- Bytes marked for a terminal: 27 begins the sequence that sets a colour, and the one that resets it.
-abbrev pub coloured : Bool → List ℕ → List ℕ → List ℕ
-coloured false code text = text
-coloured true code text = 27 ∷ (codes "[" ++ (code ++
-    (codes "m" ++ (27 ∷ (codes "[K" ++ (text ++ (27 ∷ (codes "[m" ++ (27 ∷ codes "[K")))))))))
+-- The separator after each field before a line: a colon for selected lines, a hyphen for others, unless it is given.
+abbrev pub separator : OutputOptions → Role → List ℕ
+separator w Selected = unwrap_or (option_map (λ t. t.now) w.match_separator) (codes ":")
+separator w _ = unwrap_or (option_map (λ t. t.now) w.context_separator) (codes "-")
 
--- The separator after each field before a line: a colon for selected lines, a hyphen for others.
-abbrev pub separator : Role → List ℕ
-separator Selected = codes ":"
-separator _ = codes "-"
-
-abbrev pub field : OutputOptions → Role → List ℕ → List ℕ → List ℕ
-field w role code text = coloured w.color code text ++ coloured w.color (codes "36") (separator role)
+abbrev pub field : OutputOptions → Role → Part → List ℕ → List ℕ
+field w role part text = coloured w.color part text ++ coloured w.color Separator (separator w role)
 
 abbrev pub if_asked : Bool → List ℕ → List ℕ
 if_asked true text = text
@@ -31,19 +29,19 @@ if_asked false text = []
 
 -- A name and what follows it: a zero byte if that is asked for, and else these bytes.
 abbrev pub name_before : OutputOptions → List ℕ → List ℕ → List ℕ
-name_before w name other = coloured w.color (codes "35") name ++ (if w.zero_names then 0 ∷ [] else other)
+name_before w name other = coloured w.color Name name ++ (if w.zero_names then 0 ∷ [] else other)
 
 abbrev pub name_field : OutputOptions → Role → Option (List ℕ) → List ℕ
 name_field w role None = []
-name_field w role (Some name) = name_before w name (coloured w.color (codes "36") (separator role))
+name_field w role (Some name) = name_before w name (coloured w.color Separator (separator w role))
 
 -- A text of at least this many bytes: spaces precede a shorter one.
 abbrev pub padded : ℕ → List ℕ → List ℕ
 padded zero text = text
 padded (suc n) text = replicate (suc n - length text) 32 ++ text
 
-abbrev pub number_field : OutputOptions → Role → ℕ → List ℕ
-number_field w role number = field w role (codes "32") (padded w.width (decimal number))
+abbrev pub number_field : OutputOptions → Role → Part → ℕ → List ℕ
+number_field w role part number = field w role part (padded w.width (decimal number))
 
 -- The column of a match, counted in bytes from 1, if columns are asked for.
 abbrev pub column_of : OutputOptions → ℕ × ℕ → Option ℕ
@@ -51,15 +49,15 @@ column_of w s = if w.columns then Some (s.0 + 1) else None
 
 abbrev pub column_field : OutputOptions → Role → Option ℕ → List ℕ
 column_field w role None = []
-column_field w role (Some column) = number_field w role column
+column_field w role (Some column) = number_field w role Number column
 
 -- What is printed before a line, or before a match in it, whose first byte is at this offset. A match that is shown has a column.
 abbrev pub fields : OutputOptions → Option (List ℕ) → Role → ℕ → Option ℕ → ℕ → List ℕ
 fields w name role number column place =
     name_field w role name
-    ++ (if_asked w.numbers (number_field w role number)
+    ++ (if_asked w.numbers (number_field w role Number number)
     ++ (column_field w role column
-    ++ if_asked w.offsets (number_field w role place)))
+    ++ if_asked w.offsets (number_field w role Offset place)))
 
 -- The tab between these fields and a text, if it is asked for. Without fields there is none, and before an empty text neither.
 abbrev pub tab : OutputOptions → Option (List ℕ) → List ℕ → List ℕ
@@ -77,12 +75,6 @@ span_pair s = (s.start, s.end)
 abbrev pub is_some_text : ℕ × ℕ → Bool
 is_some_text s = nat_lt s.0 s.1
 
--- The bytes of a line from an offset on, with the spans after that offset marked. Empty ones aren't.
-abbrev pub marked_from : List ℕ → ℕ → List (ℕ × ℕ) → List ℕ
-marked_from line at [] = slice_range line at (length line)
-marked_from line at (s ∷ spans) = slice_range line at s.0
-    ++ (coloured (is_some_text s) (codes "01;31") (slice_range line s.0 s.1) ++ marked_from line s.1 spans)
-
 -- Matches are shown in lines that can have some: in selected lines, or with `invert` in context lines.
 abbrev pub has_marks : OutputOptions → Role → Bool
 has_marks w Selected = not w.invert
@@ -90,7 +82,7 @@ has_marks w _ = w.invert
 
 -- Whether the output for a line depends on the matches in it.
 abbrev pub shows_matches : OutputOptions → Bool
-shows_matches w = w.color || w.columns || w.each_match || is_some w.replacement
+shows_matches w = is_some w.color || w.columns || w.each_match || is_some w.replacement
 
 -- The matches that are shown in a line of this role that has these.
 abbrev pub shown_matches : OutputOptions → Role → List (ℕ × ℕ) → List (ℕ × ℕ)
@@ -116,10 +108,15 @@ trimmed w text = drop (left_out w text) text
 abbrev pub moved : ℕ → ℕ × ℕ → ℕ × ℕ
 moved n s = (s.0 - n, s.1 - n)
 
--- The bytes of a line in which these matches are shown.
-abbrev pub line_bytes : OutputOptions → List (ℕ × ℕ) → List ℕ → List ℕ
-line_bytes w found line =
-    if w.color then marked_from (trimmed w line) 0 (map (moved (left_out w line)) found) else trimmed w line
+-- A text of a line in which these matches are marked, if there are colours. Without a colour for matches the line has its own.
+abbrev pub marked_line : Option Colors → Bool → Role → List (ℕ × ℕ) → List ℕ → List ℕ
+marked_line None invert role found text = text
+marked_line (Some c) invert role found text =
+    marked_from c (line_part (invert && c.swaps) role) (match_part role) text 0 (if has_color c (match_part role) then found else [])
+
+-- The bytes of a line of this role, in which these matches are shown.
+abbrev pub line_bytes : OutputOptions → Role → List (ℕ × ℕ) → List ℕ → List ℕ
+line_bytes w role found line = marked_line w.color w.invert role (map (moved (left_out w line)) found) (trimmed w line)
 
 -- Whether a text has more bytes than may be printed.
 abbrev pub exceeds : Option ℕ → ℕ → Bool
@@ -140,14 +137,47 @@ abbrev pub omission : Role → ℕ → List ℕ
 omission role count =
     if nat_lt 0 count then codes "[Omitted long line with " ++ (decimal count ++ codes " matches]") else omitted_line role
 
+-- The bytes of a character after its first one.
+abbrev pub is_inner : ℕ → Bool
+is_inner b = nat_lt 127 b && nat_lt b 192
+
+-- The greatest offset up to this one that isn't inside a character.
+abbrev pub cut_at : List ℕ → ℕ → ℕ
+cut_at text zero = zero
+cut_at text (suc n) = if is_inner (get_or text (suc n) 0) then cut_at text n else suc n
+
+-- The beginning of a text that is too long: whole characters.
+abbrev pub front : OutputOptions → List ℕ → List ℕ
+front w text = take (cut_at text (unwrap_or w.most_bytes 0)) text
+
+-- What follows the beginning of a line, if this number of matches begins after it.
+abbrev pub more_note : ℕ → List ℕ
+more_note count = codes " [... " ++ (decimal count ++ (if count == 1 then codes " more match]" else codes " more matches]"))
+
+-- What follows the first n bytes of a line in which these matches are shown.
+abbrev pub end_note : List (ℕ × ℕ) → ℕ → List ℕ
+end_note [] n = codes " [... omitted end of long line]"
+end_note (s ∷ shown) n = more_note (count_by (λ s. not (nat_lt s.0 n)) (s ∷ shown))
+
+-- The beginning of a line and what follows it. In the beginning, the marks are shown.
+abbrev pub preview_text : OutputOptions → Option (List ℕ) → Role → List ℕ → List (ℕ × ℕ) → List (ℕ × ℕ) → List ℕ
+preview_text w name role line marks shown =
+    tab w name (end_note shown (length (front w line)))
+    ++ (line_bytes w role marks (front w line) ++ (end_note shown (length (front w line)) ++ 10 ∷ []))
+
 abbrev pub omitted_text : OutputOptions → Option (List ℕ) → Role → ℕ → List ℕ
 omitted_text w name role count = tab w name (omission role count) ++ (omission role count ++ 10 ∷ [])
 
--- A line after its fields, with these matches marked in it. It has so many.
-abbrev pub line_text : OutputOptions → Option (List ℕ) → Role → TextLine → List (ℕ × ℕ) → ℕ → List ℕ
-line_text w name role line marks count =
-    if is_long w line then omitted_text w name role count
-    else tab w name (trimmed w line.content.bytes) ++ (line_bytes w marks line.content.bytes ++ 10 ∷ [])
+-- What is printed after the fields of a line that is too long.
+abbrev pub long_text : OutputOptions → Option (List ℕ) → Role → List ℕ → List (ℕ × ℕ) → List (ℕ × ℕ) → List ℕ
+long_text w name role line marks shown =
+    if w.preview then preview_text w name role line marks shown else omitted_text w name role (length shown)
+
+-- A line after its fields, with these of the matches that are shown in it marked.
+abbrev pub line_text : OutputOptions → Option (List ℕ) → Role → TextLine → List (ℕ × ℕ) → List (ℕ × ℕ) → List ℕ
+line_text w name role line marks shown =
+    if is_long w line then long_text w name role line.content.bytes marks shown
+    else tab w name (trimmed w line.content.bytes) ++ (line_bytes w role marks line.content.bytes ++ 10 ∷ [])
 
 -- The column of the first match.
 abbrev pub first_column : OutputOptions → List (ℕ × ℕ) → Option ℕ
@@ -157,28 +187,37 @@ first_column w (s ∷ spans) = column_of w s
 -- A line that is printed once, with these matches shown in it.
 abbrev pub printed_once : OutputOptions → Option (List ℕ) → Role → TextLine → List (ℕ × ℕ) → List ℕ
 printed_once w name role line shown =
-    fields w name role line.number (first_column w shown) line.place ++ line_text w name role line shown (length shown)
+    fields w name role line.number (first_column w shown) line.place ++ line_text w name role line shown shown
 
--- A line that is printed for one of its matches. It has so many.
-abbrev pub printed_for : OutputOptions → Option (List ℕ) → Role → TextLine → ℕ → ℕ × ℕ → List ℕ
-printed_for w name role line count s =
-    fields w name role line.number (column_of w s) (line.place + s.0) ++ line_text w name role line (s ∷ []) count
+-- A line that is printed for one of the matches that are shown in it.
+abbrev pub printed_for : OutputOptions → Option (List ℕ) → Role → TextLine → List (ℕ × ℕ) → ℕ × ℕ → List ℕ
+printed_for w name role line shown s =
+    fields w name role line.number (column_of w s) (line.place + s.0) ++ line_text w name role line (s ∷ []) shown
 
 abbrev pub printed_with : OutputOptions → Option (List ℕ) → Role → TextLine → List (ℕ × ℕ) → List ℕ
 printed_with w name role line shown =
-    if w.each_match && nat_lt 0 (length shown) then flat_map (printed_for w name role line (length shown)) shown
+    if w.each_match && nat_lt 0 (length shown) then flat_map (printed_for w name role line shown) shown
     else printed_once w name role line shown
 
 -- A line that has these matches.
 abbrev pub printed_line : OutputOptions → Option (List ℕ) → Role → TextLine → List (ℕ × ℕ) → List ℕ
 printed_line w name role line found = printed_with w name role line (shown_matches w role found)
 
+-- The bytes of a match, unless it is empty.
+abbrev pub match_bytes : OutputOptions → Role → List ℕ → List ℕ
+match_bytes w role text = if nat_lt 0 (length text) then coloured w.color (match_part role) text else []
+
+-- What is printed after the fields of a match that is too long.
+abbrev pub long_match : OutputOptions → Option (List ℕ) → Role → List ℕ → List ℕ
+long_match w name role text =
+    if w.preview then tab w name (more_note 0) ++ (match_bytes w role (trimmed w (front w text)) ++ (more_note 0 ++ 10 ∷ []))
+    else omitted_text w name role 0
+
 -- The bytes of a match after its fields.
 abbrev pub match_text : OutputOptions → Option (List ℕ) → Role → List ℕ → List ℕ
 match_text w name role text =
-    if exceeds w.most_bytes (length text) then omitted_text w name role 0
-    else tab w name (trimmed w text)
-    ++ (coloured (w.color && nat_lt 0 (length (trimmed w text))) (codes "01;31") (trimmed w text) ++ 10 ∷ [])
+    if exceeds w.most_bytes (length text) then long_match w name role text
+    else tab w name (trimmed w text) ++ (match_bytes w role (trimmed w text) ++ 10 ∷ [])
 
 -- Whether a match, or what replaces it, is printed as a line of its own. An empty match isn't, but what replaces a match is, even if it is
 -- empty.
@@ -206,7 +245,7 @@ group_text Omitted = None
 -- The separator line of this text.
 abbrev pub separator_line : OutputOptions → Option (List ℕ) → List ℕ
 separator_line w None = []
-separator_line w (Some text) = coloured w.color (codes "36") text ++ 10 ∷ []
+separator_line w (Some text) = coloured w.color Separator text ++ 10 ∷ []
 
 -- What is between two groups of lines that aren't adjacent.
 abbrev pub group_line : OutputOptions → List ℕ

@@ -11,7 +11,9 @@ use Rattle.grep_core.specs.Lines.{SplitLine, TextLine, text_lines}
 use Rattle.grep_core.specs.declared.role.Role.{Role}
 use Rattle.grep_core.specs.declared.role.Role.TheVariants.{Selected, Beside, Hidden}
 use Rattle.grep_core.specs.Selecting.{limited, count_selected, roles}
-use Rattle.grep_core.specs.Printing.{printed_line, printed_matches, group_line, name_before, name_field}
+use Rattle.grep_core.specs.Colors.{coloured}
+use Rattle.grep_core.specs.declared.colors.Part.TheVariants.{Separator}
+use Rattle.grep_core.specs.Printing.{printed_line, printed_matches, group_line, name_before}
 
 -- What is shown of a line: bytes, and the spans in them of its matches, or of what replaces these, from left to right.
 pub record ShownLine : Type 0 where
@@ -87,10 +89,10 @@ print_lines w print before (Selected ∷ rs) (line ∷ lines) =
 print_lines w print before (Beside ∷ rs) (line ∷ lines) =
     parting w before ++ (print Beside line ++ print_lines w print LastPrinted rs lines)
 
--- The count as a line, after the name of the input if there is one.
+-- The count as a line, after the name of the input and a colon if there is one.
 abbrev pub count_line : OutputOptions → Option (List ℕ) → ℕ → List ℕ
 count_line w None n = decimal n ++ 10 ∷ []
-count_line w (Some name) n = name_field w Selected (Some name) ++ (decimal n ++ 10 ∷ [])
+count_line w (Some name) n = name_before w name (coloured w.color Separator (codes ":")) ++ (decimal n ++ 10 ∷ [])
 
 -- How many matches the selected lines have.
 abbrev pub count_matches : OutputOptions → LineMatcher → List TextLine → List Bool → ℕ

@@ -1,5 +1,5 @@
 -- Whole lines of which none has a match.
-use Rattle.std.specs.Prelude.{◌≡◌, ◌⊎◌, ℕ, true, false, List, [], ◌∷◌, ◌++◌, All, if◌then◌else◌}
+use Rattle.std.specs.Prelude.{◌≡◌, ◌⊎◌, ℕ, Bool, true, false, ◌&&◌, ◌||◌, List, [], ◌∷◌, ◌++◌, All, if◌then◌else◌}
 use Rattle.grep_core.specs.declared.progress.Progress.{Progress}
 use Rattle.grep_core.specs.declared.progress.Task.{Task}
 use Rattle.grep_core.specs.declared.context_printer.ContextPrinter.{ContextPrinter}
@@ -27,6 +27,10 @@ pub record MaySkip (w : OutputOptions) (c : ContextPrinter) : Type 0 where
 -- How many lines before a selected one are printed with it.
 abbrev pub held_of : OutputOptions → ℕ
 held_of w = if prints_lines w.print then before_of w.context else 0
+
+-- Whether the output depends on the numbers of lines or on their offsets.
+abbrev pub shows_numbers : OutputOptions → Bool
+shows_numbers w = prints_lines w.print && (w.numbers || w.offsets)
 
 -- The lines were processed up to `rest`. If none of them has a match, then none in `rest` has one. The output so far, followed by what is
 -- still to be printed, is unchanged, whatever follows these lines. So is the number of selected lines.

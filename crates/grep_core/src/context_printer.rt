@@ -151,6 +151,28 @@ fn select(
     Ok(())
 }
 
+/// Advances by a line that is selected, up to what is printed of it: the buffered lines and the separator are printed.
+pub(crate) fn select_first(
+    alloc: Global,
+    out: &mut Vec<u8>,
+    what: &OutputOptions<'_>,
+    name: Option<&[u8]>,
+    course: &mut ContextPrinter,
+) -> Result<(), Fault>
+    requires { Waits what.now course.old }
+    ensures goes_on { OnOk result ((it : Item) (flags : List Bool) (items : List Item) →
+        out.old.items ++ still what.now (option_map (λ n. n.now) name.entry) course.old (true ∷ flags) (it ∷ items)
+        ≡ (out.new.items ++ print_item what.now (option_map (λ n. n.now) name.entry) Role.Selected it)
+        ++ still what.now (option_map (λ n. n.now) name.entry) course.new flags items) }
+    ensures waits { OnOk result (Waits what.now course.new) }
+{
+    print_waiting(alloc, out, what, name, course)?;
+    push_parting(out, what, course.known)?;
+    course.known = SeparatorState::LastPrinted;
+    course.left = after_of(what);
+    Ok(())
+}
+
 /// Advances by a line that isn't selected, if it is owed to the last selected one as context.
 fn stand_next_to(
     alloc: Global,

@@ -3,6 +3,7 @@ ghost use Rattle.std.specs.Prelude.{◌≡◌, ◌≤◌, ◌∷◌, ◌++◌, �
 ghost use Rattle.regex_hir.specs.Text.{is_some_and};
 ghost use Rattle.regex_meta.specs.Programs.{pattern_of};
 ghost use Rattle.grep_core.specs.Fallbacks.{AreTreesOfPatterns, IsProgramOf, IsTreeOfText, found_at, next_after};
+ghost use Rattle.grep_core.specs.LongLines.{IsFoundSpan};
 ghost use Rattle.grep_core.specs.Printing.{span_pair};
 ghost use Rattle.grep_core.specs.Searchers.{AreReported, IsMatchReported};
 ghost use Rattle.grep_core.specs.declared.patterns.PatternOptions.{PatternOptions};
@@ -153,8 +154,34 @@ fn find_from(searcher: &mut Searcher<'_>, line: &[u8], start: usize) -> Option<S
     }
 }
 
+/// The span of the match from an offset on, as the patterns say it.
+pub(crate) fn found_from(searcher: &mut Searcher<'_>, line: &[u8], start: usize) -> Option<Span>
+    requires { start ≤ length line.now }
+    ensures reported { (how : PatternOptions) (texts : List (List ℕ)) → IsProgramOf how texts searcher.old.program.now →
+        IsFoundSpan how texts line.now start (option_map span_pair result) }
+    ensures same { searcher.new.program.now ≡ searcher.old.program.now }
+{
+    see_bytes(line);
+    find_from(searcher, line, start)
+}
+
+/// The span of the match from an offset on, by a searcher that is made for it.
+pub(crate) fn found_from_anew(
+    alloc: Global,
+    program: &Program,
+    line: &[u8],
+    start: usize,
+) -> Result<Option<Span>, AllocError>
+    requires { start ≤ length line.now }
+    ensures { IfOk result (λ found. (how : PatternOptions) (texts : List (List ℕ)) → IsProgramOf how texts program.now →
+        IsFoundSpan how texts line.now start (option_map span_pair found)) }
+{
+    let mut searcher = Searcher::new(alloc, program)?;
+    Ok(found_from(&mut searcher, line, start))
+}
+
 /// Whether there is a span, and it ends at this offset.
-fn ends_at(next: Option<Span>, end: usize) -> bool
+pub(crate) fn ends_at(next: Option<Span>, end: usize) -> bool
     ensures { result ≡ is_some_and (option_map span_pair next) (λ s. s.1 == end) }
 {
     match next {

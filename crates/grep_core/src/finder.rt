@@ -1,10 +1,12 @@
 //! Finds patterns by automata. Where these give up at a quit byte, a program of the toolchain for the same patterns answers.
-ghost use Rattle.std.specs.Prelude.{◌≡◌, IfErr, IfOk, map, true, ◌≤◌, length};
+ghost use Rattle.std.specs.Prelude.{◌≡◌, IfErr, IfOk, map, option_map, true, ◌≤◌, length};
 ghost use Rattle.grep_core.specs.Candidates.{IsLineStart, IsNextLine};
+ghost use Rattle.grep_core.specs.LongLines.{IsNextSpan, IsFoundSpan};
 ghost use Rattle.grep_core.specs.Printing.{span_pair};
 ghost use Rattle.grep_core.specs.Searchers.{AreReplaced, IsMatchReported, AreReported, IsSearcherError, SearchesFor};
 
 use crate::candidates::Reached;
+use crate::fallback::ends_at;
 use crate::fault::Fault;
 use crate::line_finder::LineFinder;
 use crate::line_patterns::LinePatterns;
@@ -59,6 +61,14 @@ fn lacks_memory(error: &MatchError) -> bool {
     match error.kind() {
         MatchErrorKind::NoMemory => true,
         _ => false,
+    }
+}
+
+/// Where a match ends, or the end of the line if there is none.
+fn end_of(found: Option<Span>, end: usize) -> usize {
+    match found {
+        Some(span) => span.end,
+        None => end,
     }
 }
 
@@ -279,5 +289,101 @@ impl<'t> Finder<'t> {
             Err(e) => return Err(e),
         };
         Ok(replaced)
+    }
+
+    /// Whether it may be asked for matches.
+    pub(crate) fn with_matches(&self) -> bool
+        ensures { result ≡ self.now.spans }
+    {
+        self.with_matches
+    }
+
+    /// The span of the match from an offset of the line on, by the program.
+    fn find_slowly(
+        &mut self,
+        alloc: Global,
+        line: &[u8],
+        start: usize,
+    ) -> Result<Option<Span>, Fault>
+        requires { start ≤ length line.now }
+        ensures same { self.new ≡ self.old }
+        ensures reported { IfOk result (λ found. IsFoundSpan self.old.how self.old.texts line.now start (option_map span_pair found)) }
+    {
+        let found = match self.slow.find_from(alloc, line, start) {
+            Ok(found) => found,
+            Err(e) => return Err(e),
+        };
+        Ok(found)
+    }
+
+    /// The span of the match from an offset of the line on, by the automata.
+    fn find_quickly(&mut self, line: &[u8], start: usize) -> Result<Option<Span>, MatchError>
+        requires { start ≤ length line.now }
+        ensures same { self.new ≡ self.old }
+        ensures reported { self.old.spans ≡ true →
+            IfOk result (λ found. IsFoundSpan self.old.how self.old.texts line.now start (option_map span_pair found)) }
+    {
+        let found = match self.searcher.find_from(line, start) {
+            Ok(found) => found,
+            Err(e) => return Err(e),
+        };
+        self.note_lines(end_of(found, line.len()).saturating_sub(start));
+        Ok(found)
+    }
+
+    /// The span of the leftmost match that starts at an offset of the line or after it.
+    pub(crate) fn find_from(
+        &mut self,
+        alloc: Global,
+        line: &[u8],
+        start: usize,
+    ) -> Result<Option<Span>, Fault>
+        requires { start ≤ length line.now }
+        ensures same { self.new ≡ self.old }
+        ensures reported { self.old.spans ≡ true →
+            IfOk result (λ found. IsFoundSpan self.old.how self.old.texts line.now start (option_map span_pair found)) }
+    {
+        self.grow_searcher(alloc);
+        let error = match self.find_quickly(line, start) {
+            Ok(found) => return Ok(found),
+            Err(error) => error,
+        };
+        if lacks_memory(&error) {
+            return Err(Fault::NoMemory);
+        }
+        match self.find_slowly(alloc, line, start) {
+            Ok(found) => Ok(found),
+            Err(e) => Err(e),
+        }
+    }
+
+    /// The next span of the line after one that ended at this offset. An empty span there is skipped.
+    pub(crate) fn find_next(
+        &mut self,
+        alloc: Global,
+        line: &[u8],
+        end: usize,
+    ) -> Result<Option<Span>, Fault>
+        ensures same { self.new ≡ self.old }
+        ensures reported { self.old.spans ≡ true →
+            IfOk result (λ found. IsNextSpan self.old.how self.old.texts line.now end (option_map span_pair found)) }
+    {
+        if end > line.len() {
+            return Ok(None);
+        }
+        let next = match self.find_from(alloc, line, end) {
+            Ok(next) => next,
+            Err(e) => return Err(e),
+        };
+        if !ends_at(next, end) {
+            return Ok(next);
+        }
+        if end >= line.len() {
+            return Ok(None);
+        }
+        match self.find_from(alloc, line, end + 1) {
+            Ok(next) => Ok(next),
+            Err(e) => Err(e),
+        }
     }
 }

@@ -2,19 +2,59 @@
 ghost use Rattle.std.specs.Prelude.{◌≡◌, ◌++◌, ◌+◌, OnOk, map, option_map, slice_range};
 ghost use Rattle.std.specs.List.{flat_map};
 ghost use Rattle.grep_core.specs.ContextPrinting.{item, print_item};
-ghost use Rattle.grep_core.specs.Printing.{column_of, fields, is_printed, match_text, printed_match, printed_matches, span_pair, text_line};
+ghost use Rattle.grep_core.specs.Printing.{column_of, fields, is_printed, long_match, match_bytes, match_text, printed_match, printed_matches, span_pair, text_line};
 
+use crate::colors::{match_part, push_marked};
 use crate::fault::Fault;
 use crate::line::Line;
 use crate::output_options::{OutputOptions, Print};
+use crate::previews::{front, more_note};
 use crate::printing::{
-    column_of, exceeds, has_marks, piece, push_fields, push_line, push_marked, push_omission,
-    push_tab, trimmed,
+    column_of, exceeds, has_marks, push_fields, push_line, push_omission, push_tab, trimmed,
 };
 use crate::progress::sum;
 use crate::role::Role;
+use crate::texts::piece;
 use search_types::Span;
 use std::alloc::{AllocError, Global};
+
+/// Appends the bytes of a match, unless it is empty.
+fn push_match_bytes(
+    out: &mut Vec<u8>,
+    what: &OutputOptions<'_>,
+    role: Role,
+    text: &[u8],
+) -> Result<(), AllocError>
+    ensures { OnOk result (out.new.items ≡ out.old.items ++ match_bytes what.now role text.now) }
+{
+    if text.is_empty() {
+        return Ok(());
+    }
+    push_marked(out, &what.color, match_part(role), text)
+}
+
+/// Appends what is printed after the fields of a match that is too long.
+fn push_long_match(
+    alloc: Global,
+    out: &mut Vec<u8>,
+    what: &OutputOptions<'_>,
+    name: Option<&[u8]>,
+    role: Role,
+    text: &[u8],
+) -> Result<(), AllocError>
+    ensures { OnOk result (out.new.items ≡ out.old.items
+        ++ long_match what.now (option_map (λ n. n.now) name.entry) role text.now) }
+{
+    if !what.preview {
+        return push_omission(alloc, out, what, name, role, 0);
+    }
+    let note = more_note(alloc, 0)?;
+    push_tab(out, what, name, &note)?;
+    push_match_bytes(out, what, role, trimmed(what, front(what.most_bytes, text)))?;
+    out.extend_from_slice(&note)?;
+    out.push(b'\n')?;
+    Ok(())
+}
 
 /// Appends the bytes of a match after its fields.
 fn push_match_text(
@@ -29,11 +69,11 @@ fn push_match_text(
         ++ match_text what.now (option_map (λ n. n.now) name.entry) role text.now) }
 {
     if exceeds(what.most_bytes, text.len() as u64) {
-        return push_omission(alloc, out, what, name, role, 0);
+        return push_long_match(alloc, out, what, name, role, text);
     }
     let text = trimmed(what, text);
     push_tab(out, what, name, text)?;
-    push_marked(out, what.color && !text.is_empty(), b"01;31", text)?;
+    push_match_bytes(out, what, role, text)?;
     out.push(b'\n')?;
     Ok(())
 }
@@ -69,7 +109,7 @@ fn is_printed(what: &OutputOptions<'_>, span: Span) -> bool
 }
 
 /// Appends a match as a line of its own, unless it is empty and isn't replaced.
-fn push_some(
+pub(crate) fn push_some(
     alloc: Global,
     out: &mut Vec<u8>,
     what: &OutputOptions<'_>,

@@ -14,6 +14,9 @@ use literal_search::{CandidateFinder, Effort};
 use std::alloc::Global;
 use std::marker::Model;
 
+/// How many skipped bytes make up for a candidate: the automata search about as many in the time that a search of one short line takes.
+const CANDIDATE: usize = 224;
+
 /// Literals of which each match of the patterns contains one, and a search for them. A contract sees it as the list of the literals.
 #[derive(Drop)]
 pub(crate) struct LiteralLines {
@@ -65,7 +68,7 @@ impl LiteralLines {
         };
         Some(LiteralLines {
             finder,
-            effort: Effort::new(),
+            effort: Effort::with_price(CANDIDATE),
             stopped: usize::MAX,
         })
     }

@@ -1,7 +1,7 @@
 //! The result of searching a line.
 ghost use Rattle.std.specs.Prelude.{◌≡◌, Bool, IfOk, map, true};
 ghost use Rattle.grep_core.specs.Blocks.{bytes_or, seen_line};
-ghost use Rattle.grep_core.specs.Lines.{searched, without_return};
+ghost use Rattle.grep_core.specs.Lines.{searched};
 ghost use Rattle.grep_core.specs.Printing.{span_pair};
 ghost use Rattle.grep_core.specs.Searchers.{IsMatchReported, SearchesFor, found_by};
 ghost use Rattle.grep_core.specs.Reporting.{needs_shown, needs_spans, with_needed_spans};
@@ -10,8 +10,9 @@ ghost use Rattle.grep_core.specs.Report.{as_it_is, shown_of};
 use crate::fault::Fault;
 use crate::finder::Finder;
 use crate::output_options::{OutputOptions, Print};
-use crate::printing::{shows_matches, text_from};
+use crate::printing::shows_matches;
 use crate::replacing::Replaced;
+use crate::texts::{text_from, without_return};
 use search_types::Span;
 use std::alloc::Global;
 
@@ -77,27 +78,13 @@ fn has_match(
 
 /// The bytes of a line against which patterns are matched: the line without its line feed and, with `crlf`, without one carriage return
 /// right before that.
-fn searched(crlf: bool, line: &[u8], is_ended: bool) -> &[u8]
+pub(crate) fn searched(crlf: bool, line: &[u8], is_ended: bool) -> &[u8]
     ensures { result.now ≡ searched crlf (record { bytes = line.now; is_ended = is_ended }) }
 {
     if !crlf || !is_ended {
         return line;
     }
     without_return(line)
-}
-
-/// The bytes without the carriage return at their end, if there is one.
-#[tactic(auto, using(crate::proofs::ReturnLemmas::none_left_out, crate::proofs::ReturnLemmas::return_left_out, crate::proofs::ReturnLemmas::other_kept))]
-fn without_return(bytes: &[u8]) -> &[u8]
-    ensures { result.now ≡ without_return bytes.now }
-{
-    let Some((last, front)) = bytes.split_last() else {
-        return bytes;
-    };
-    if *last == b'\r' {
-        return front;
-    }
-    bytes
 }
 
 /// The line with its matches replaced. What is searched of it comes first.

@@ -1,3 +1,5 @@
+use crate::colors::Colors;
+
 /// How many lines are printed as context.
 #[derive(Clone, Copy, Debug, PartialEq, Eq)]
 pub struct Context {
@@ -58,8 +60,12 @@ pub struct OutputOptions<'a> {
     pub context: Option<Context>,
     /// The greatest number of lines that are selected, if there is one.
     pub most: Option<u64>,
-    /// Whether names, numbers, separators and matches are marked for a terminal.
-    pub color: bool,
+    /// The colours in which names, numbers, separators, lines and matches are marked for a terminal, if they are.
+    pub color: Option<Colors<'a>>,
+    /// The separator after each field before a selected line. Without one it is a colon.
+    pub match_separator: Option<&'a [u8]>,
+    /// The separator after each field before a context line. Without one it is a hyphen.
+    pub context_separator: Option<&'a [u8]>,
     /// Whether a zero byte follows names, instead of a separator or a line feed.
     pub zero_names: bool,
     /// Whether a tab separates a line or match from the fields before it, if there are any. An empty line has none.
@@ -69,6 +75,8 @@ pub struct OutputOptions<'a> {
     /// The greatest number of bytes of a line, with its line feed, or match that is printed, if there is one. A short text stands for
     /// longer ones.
     pub most_bytes: Option<u64>,
+    /// Whether the beginning of a line or match that is too long is printed, and not only the short text.
+    pub preview: bool,
     /// The least number of bytes for a number, column or offset. Spaces precede shorter ones.
     pub width: usize,
     /// What separates groups of lines, if context is asked for.

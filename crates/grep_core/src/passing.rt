@@ -5,23 +5,22 @@ ghost use Rattle.grep_core.specs.Blocks.{SearchesBy, finds_by, reported_bytes, c
 ghost use Rattle.grep_core.specs.Candidates.{IsLineStart};
 ghost use Rattle.grep_core.specs.ContextPrinting.{Waits};
 ghost use Rattle.grep_core.specs.Lines.{SplitLine, ended, split_lines};
-ghost use Rattle.grep_core.specs.Skipping.{AreWhole, HasNoMatch, MaySkip, SkipsTo, held_of};
+ghost use Rattle.grep_core.specs.Skipping.{AreWhole, HasNoMatch, MaySkip, SkipsTo, held_of, shows_numbers};
 ghost use Rattle.grep_core.specs.Report.{LineMatcher};
 ghost use Rattle.grep_core.specs.Searchers.{Sought, found_by};
-ghost use Rattle.grep_core.specs.Reporting.{prints_lines};
 
 use crate::candidates::line_start;
 use crate::context_printer::{ContextPrinter, after_hidden, before_of, forget_waiting};
 use crate::fault::Fault;
 use crate::feeds::feed_at;
 use crate::line::Line;
-use crate::output_options::{OutputOptions, Print};
+use crate::output_options::OutputOptions;
 use crate::progress::{Progress, Task, pass, sum};
 use crate::reporter::{prints_lines, report_line};
 use std::alloc::Global;
 
-/// The greatest count that fits into one byte.
-const PART: usize = 255;
+/// How many bytes are counted in one byte: no more than the greatest count that fits into it, and whole vectors.
+const PART: usize = 128;
 
 /// The number of line feeds in a short part. The count is kept in one byte, so that many bytes are compared and added at once.
 fn count_few(part: &[u8]) -> u8
@@ -102,14 +101,21 @@ fn stops(what: &OutputOptions<'_>, course: &ContextPrinter, all: bool) -> bool
     may_pass(what, course)
 }
 
-/// Counts whole lines that are skipped, if lines are printed. Otherwise the output doesn't depend on their numbers.
-fn count_over(print: Print, progress: &mut Progress, lines: &[u8]) -> Result<(), Fault>
-    ensures number { prints_lines print ≡ true →
+/// Whether the output depends on the numbers of lines or on their offsets.
+fn shows_numbers(what: &OutputOptions<'_>) -> bool
+    ensures { result ≡ shows_numbers what.now }
+{
+    prints_lines(what.print) && (what.numbers || what.offsets)
+}
+
+/// Counts whole lines that are skipped, if the output depends on the numbers or offsets of lines.
+fn count_over(what: &OutputOptions<'_>, progress: &mut Progress, lines: &[u8]) -> Result<(), Fault>
+    ensures number { shows_numbers what.now ≡ true →
         OnOk result (progress.new.number ≡ progress.old.number + count_by (λ b. b == 10) lines.now) }
-    ensures place { prints_lines print ≡ true → OnOk result (progress.new.place ≡ progress.old.place + length lines.now) }
+    ensures place { shows_numbers what.now ≡ true → OnOk result (progress.new.place ≡ progress.old.place + length lines.now) }
     ensures telling { OnOk result (progress.new.telling ≡ progress.old.telling) }
 {
-    if !prints_lines(print) {
+    if !shows_numbers(what) {
         return Ok(());
     }
     let feeds = count_feeds(lines);
@@ -119,7 +125,7 @@ fn count_over(print: Print, progress: &mut Progress, lines: &[u8]) -> Result<(),
 }
 
 /// Skips lines without a match, except the last ones, which are printed if a selected line follows them. If any line is skipped, the
-/// buffered lines are dropped, and if lines are printed, the skipped ones are counted. Returns the start of the first line that isn't
+/// buffered lines are dropped, and if numbers or offsets are printed, the skipped ones are counted. Returns the start of the first line that isn't
 /// skipped.
 fn skip_over(task: Task<'_>, progress: &mut Progress, lines: &[u8]) -> Result<usize, Fault>
     requires waits { Waits task.what.now progress.old.telling.course }
@@ -134,7 +140,7 @@ fn skip_over(task: Task<'_>, progress: &mut Progress, lines: &[u8]) -> Result<us
     if start == 0 {
         return Ok(0);
     }
-    count_over(task.what.print, progress, &lines[..start])?;
+    count_over(task.what, progress, &lines[..start])?;
     forget_waiting(&mut progress.telling.course);
     progress.telling.course.known = after_hidden(progress.telling.course.known);
     Ok(start)

@@ -1,48 +1,31 @@
 //! How a line is printed, in the format of GNU grep.
 ghost use Rattle.std.specs.Prelude.{◌≡◌, ◌<◌, ◌++◌, ◌+◌, ◌&&◌, ◌||◌, ◌∷◌, [], Some, codes, decimal, drop, is_some, length, map, nat_lt, option_map, slice_range, IfOk, OnOk};
 ghost use Rattle.std.specs.List.{flat_map};
-ghost use Rattle.grep_core.specs.Printing.{coloured, marked_from, span_pair, line_bytes, printed_line, text_line, group_line};
+ghost use Rattle.grep_core.specs.Colors.{coloured};
+ghost use Rattle.grep_core.specs.Printing.{long_text, marked_line, name_before, preview_text, span_pair, line_bytes, printed_line, text_line, group_line};
 ghost use Rattle.grep_core.specs.Printing.{field, fields, if_asked, name_field, number_field, padded, separator, separator_line, tab};
 ghost use Rattle.grep_core.specs.Printing.{blanks, column_field, column_of, exceeds, first_column, has_marks, is_blank, is_long, left_out};
 ghost use Rattle.grep_core.specs.Printing.{line_text, match_text, moved, omission, omitted_line, omitted_text, printed_for, printed_once, printed_with};
 ghost use Rattle.grep_core.specs.Printing.{shown_matches, shows_matches, trimmed};
 
+use crate::colors::{Colors, Part, code_of, line_part, match_part, push_marked, push_matches};
 use crate::fault::Fault;
 use crate::line::Line;
 use crate::output_options::{GroupSeparator, OutputOptions};
+use crate::previews::{end_note, front};
 use crate::progress::sum;
 use crate::role::Role;
+use crate::texts::text_from;
 use search_types::Span;
 use std::alloc::{AllocError, Global};
 
-/// Appends bytes, marked for a terminal if asked for.
-pub(crate) fn push_marked(
-    out: &mut Vec<u8>,
-    color: bool,
-    code: &[u8],
-    text: &[u8],
-) -> Result<(), AllocError>
-    ensures { OnOk result (out.new.items ≡ out.old.items ++ coloured color code.now text.now) }
-{
-    if !color {
-        out.extend_from_slice(text)?;
-        return Ok(());
-    }
-    out.extend_from_slice(b"\x1B[")?;
-    out.extend_from_slice(code)?;
-    out.extend_from_slice(b"m\x1B[K")?;
-    out.extend_from_slice(text)?;
-    out.extend_from_slice(b"\x1B[m\x1B[K")?;
-    Ok(())
-}
-
 /// The separator after each field before a line.
-fn separator(role: Role) -> &'static [u8]
-    ensures { result.now ≡ separator role }
+fn separator<'a>(what: &OutputOptions<'a>, role: Role) -> &'a [u8]
+    ensures { result.now ≡ separator what.now role }
 {
     match role {
-        Role::Selected => b":",
-        _ => b"-",
+        Role::Selected => what.match_separator.unwrap_or(b":"),
+        _ => what.context_separator.unwrap_or(b"-"),
     }
 }
 
@@ -51,18 +34,36 @@ pub(crate) fn push_field(
     out: &mut Vec<u8>,
     what: &OutputOptions<'_>,
     role: Role,
-    code: &[u8],
+    part: Part,
     text: &[u8],
 ) -> Result<(), AllocError>
-    ensures { OnOk result (out.new.items ≡ out.old.items ++ field what.now role code.now text.now) }
+    ensures { OnOk result (out.new.items ≡ out.old.items ++ field what.now role part text.now) }
 {
-    push_marked(out, what.color, code, text)?;
-    push_marked(out, what.color, b"36", separator(role))?;
+    push_marked(out, &what.color, part, text)?;
+    push_marked(out, &what.color, Part::Separator, separator(what, role))?;
     Ok(())
 }
 
-/// Appends a name and what follows it: a zero byte if that is asked for, and else the separator for this role.
-pub(crate) fn push_name_field(
+/// Appends a name and what follows it: a zero byte if that is asked for, and else this separator.
+pub(crate) fn push_name_before(
+    out: &mut Vec<u8>,
+    what: &OutputOptions<'_>,
+    separator: &[u8],
+    name: &[u8],
+) -> Result<(), AllocError>
+    ensures { OnOk result (out.new.items ≡ out.old.items
+        ++ name_before what.now name.now (coloured what.now.color Part.Separator separator.now)) }
+{
+    push_marked(out, &what.color, Part::Name, name)?;
+    if what.zero_names {
+        out.push(0)?;
+        return Ok(());
+    }
+    push_marked(out, &what.color, Part::Separator, separator)
+}
+
+/// Appends a name as a field.
+fn push_name_field(
     out: &mut Vec<u8>,
     what: &OutputOptions<'_>,
     role: Role,
@@ -70,12 +71,7 @@ pub(crate) fn push_name_field(
 ) -> Result<(), AllocError>
     ensures { OnOk result (out.new.items ≡ out.old.items ++ name_field what.now role (Some name.now)) }
 {
-    push_marked(out, what.color, b"35", name)?;
-    if what.zero_names {
-        out.push(0)?;
-        return Ok(());
-    }
-    push_marked(out, what.color, b"36", separator(role))
+    push_name_before(out, what, separator(what, role), name)
 }
 
 /// The text of at least this many bytes: spaces precede a shorter one.
@@ -95,18 +91,19 @@ fn push_number_field(
     out: &mut Vec<u8>,
     what: &OutputOptions<'_>,
     role: Role,
+    part: Part,
     number: u64,
 ) -> Result<(), AllocError>
-    ensures { OnOk result (out.new.items ≡ out.old.items ++ number_field what.now role number) }
+    ensures { OnOk result (out.new.items ≡ out.old.items ++ number_field what.now role part number) }
 {
     let text = format!(in alloc; "{number}")?;
     let digits = text.as_str().as_bytes();
     let width = what.width;
     if width == 0 {
-        return push_field(out, what, role, b"32", digits);
+        return push_field(out, what, role, part, digits);
     }
     let wide = padded(alloc, width, digits)?;
-    push_field(out, what, role, b"32", &wide)
+    push_field(out, what, role, part, &wide)
 }
 
 /// Appends a number as a field, if it is asked for.
@@ -115,13 +112,14 @@ fn push_number(
     out: &mut Vec<u8>,
     what: &OutputOptions<'_>,
     role: Role,
+    part: Part,
     is_asked: bool,
     number: u64,
 ) -> Result<(), AllocError>
-    ensures { OnOk result (out.new.items ≡ out.old.items ++ if_asked is_asked (number_field what.now role number)) }
+    ensures { OnOk result (out.new.items ≡ out.old.items ++ if_asked is_asked (number_field what.now role part number)) }
 {
     if is_asked {
-        return push_number_field(alloc, out, what, role, number);
+        return push_number_field(alloc, out, what, role, part, number);
     }
     Ok(())
 }
@@ -148,7 +146,7 @@ fn push_column(
     ensures { OnOk result (out.new.items ≡ out.old.items ++ column_field what.now role column) }
 {
     match column {
-        Some(column) => push_number_field(alloc, out, what, role, column),
+        Some(column) => push_number_field(alloc, out, what, role, Part::Number, column),
         None => Ok(()),
     }
 }
@@ -170,9 +168,9 @@ pub(crate) fn push_fields(
     if let Some(name) = name {
         push_name_field(out, what, role, name)?;
     }
-    push_number(alloc, out, what, role, what.numbers, number)?;
+    push_number(alloc, out, what, role, Part::Number, what.numbers, number)?;
     push_column(alloc, out, what, role, column)?;
-    push_number(alloc, out, what, role, what.offsets, place)?;
+    push_number(alloc, out, what, role, Part::Offset, what.offsets, place)?;
     Ok(())
 }
 
@@ -199,38 +197,6 @@ pub(crate) fn push_tab(
     Ok(())
 }
 
-/// The part of a line between two offsets. It is empty if the end is before the start, and it stops at the end of the line.
-pub(crate) fn piece(line: &[u8], start: usize, end: usize) -> &[u8]
-    ensures { result.now ≡ slice_range line.now start end }
-{
-    let end = end.min(line.len());
-    if start >= end {
-        return &[];
-    }
-    &line[start..end]
-}
-
-/// Appends a text with the matches in it marked. The text is a line without so many bytes at its beginning.
-fn push_matches(
-    out: &mut Vec<u8>,
-    text: &[u8],
-    found: &[Span],
-    left: usize,
-) -> Result<(), AllocError>
-    ensures { OnOk result (out.new.items ≡ out.old.items ++ marked_from text.now 0 (map (moved left) (map span_pair found.now))) }
-{
-    let mut at = 0usize;
-    for span in found {
-        let start = span.start.saturating_sub(left);
-        let end = span.end.saturating_sub(left);
-        out.extend_from_slice(piece(text, at, start))?;
-        push_marked(out, start < end, b"01;31", piece(text, start, end))?;
-        at = end;
-    }
-    out.extend_from_slice(piece(text, at, text.len()))?;
-    Ok(())
-}
-
 /// Whether matches are shown in lines of this role.
 pub(crate) fn has_marks(what: &OutputOptions<'_>, role: Role) -> bool
     ensures { result ≡ has_marks what.now role }
@@ -245,7 +211,7 @@ pub(crate) fn has_marks(what: &OutputOptions<'_>, role: Role) -> bool
 pub(crate) fn shows_matches(what: &OutputOptions<'_>) -> bool
     ensures { result ≡ shows_matches what.now }
 {
-    what.color || what.columns || what.each_match || what.replacement.is_some()
+    what.color.is_some() || what.columns || what.each_match || what.replacement.is_some()
 }
 
 /// The matches that are shown in a line of this role that has these.
@@ -282,16 +248,6 @@ pub(crate) fn left_out(what: &OutputOptions<'_>, text: &[u8]) -> usize
     ensures { result ≡ left_out what.now text.now }
 {
     if what.trim { blanks(text) } else { 0 }
-}
-
-/// The text without so many bytes at its beginning.
-pub(crate) fn text_from(text: &[u8], left: usize) -> &[u8]
-    ensures { result.now ≡ drop left text.now }
-{
-    if left > text.len() {
-        return &[];
-    }
-    &text[left..]
 }
 
 /// Whether a text of this many bytes has more than may be printed.
@@ -362,22 +318,47 @@ pub(crate) fn push_omission(
     Ok(())
 }
 
-/// Appends the bytes of a line in which these matches are shown.
+/// Appends a text of a line in which these matches are marked. The text is the line without so many bytes at its beginning. Without a
+/// colour for matches, the line has its own.
+fn push_marks(
+    out: &mut Vec<u8>,
+    colors: &Colors<'_>,
+    invert: bool,
+    role: Role,
+    text: &[u8],
+    found: &[Span],
+    left: usize,
+) -> Result<(), AllocError>
+    ensures { OnOk result (out.new.items ≡ out.old.items
+        ++ marked_line (Some colors.now) invert role (map (moved left) (map span_pair found.now)) text.now) }
+{
+    let own = line_part(invert && colors.swaps, role);
+    let part = match_part(role);
+    if code_of(colors, part).is_empty() {
+        return push_matches(out, colors, own, part, text, &[], left);
+    }
+    push_matches(out, colors, own, part, text, found, left)
+}
+
+/// Appends the bytes of a line of this role, in which these matches are shown.
 fn push_bytes(
     out: &mut Vec<u8>,
     what: &OutputOptions<'_>,
+    role: Role,
     line: &[u8],
     found: &[Span],
 ) -> Result<(), AllocError>
-    ensures { OnOk result (out.new.items ≡ out.old.items ++ line_bytes what.now (map span_pair found.now) line.now) }
+    ensures { OnOk result (out.new.items ≡ out.old.items ++ line_bytes what.now role (map span_pair found.now) line.now) }
 {
     let left = left_out(what, line);
     let text = text_from(line, left);
-    if what.color {
-        return push_matches(out, text, found, left);
+    match &what.color {
+        Some(colors) => push_marks(out, colors, what.invert, role, text, found, left),
+        None => {
+            out.extend_from_slice(text)?;
+            Ok(())
+        }
     }
-    out.extend_from_slice(text)?;
-    Ok(())
 }
 
 /// The text without the white space at its beginning, if that is left out.
@@ -392,20 +373,64 @@ fn push_short(
     out: &mut Vec<u8>,
     what: &OutputOptions<'_>,
     name: Option<&[u8]>,
+    role: Role,
     line: &[u8],
     marks: &[Span],
 ) -> Result<(), AllocError>
     ensures { OnOk result (out.new.items ≡ out.old.items
         ++ (tab what.now (option_map (λ n. n.now) name.entry) (trimmed what.now line.now)
-        ++ (line_bytes what.now (map span_pair marks.now) line.now ++ 10 ∷ []))) }
+        ++ (line_bytes what.now role (map span_pair marks.now) line.now ++ 10 ∷ []))) }
 {
     push_tab(out, what, name, trimmed(what, line))?;
-    push_bytes(out, what, line, marks)?;
+    push_bytes(out, what, role, line, marks)?;
     out.push(b'\n')?;
     Ok(())
 }
 
-/// Appends a line after its fields, with these matches marked in it. It has so many.
+/// Appends the beginning of a line that is too long after its fields, with these matches marked in it, and what follows it.
+fn push_preview(
+    alloc: Global,
+    out: &mut Vec<u8>,
+    what: &OutputOptions<'_>,
+    name: Option<&[u8]>,
+    role: Role,
+    line: &[u8],
+    marks: &[Span],
+    shown: &[Span],
+) -> Result<(), AllocError>
+    ensures { OnOk result (out.new.items ≡ out.old.items
+        ++ preview_text what.now (option_map (λ n. n.now) name.entry) role line.now (map span_pair marks.now) (map span_pair shown.now)) }
+{
+    let front = front(what.most_bytes, line);
+    let note = end_note(alloc, shown, front.len())?;
+    push_tab(out, what, name, &note)?;
+    push_bytes(out, what, role, front, marks)?;
+    out.extend_from_slice(&note)?;
+    out.push(b'\n')?;
+    Ok(())
+}
+
+/// Appends what is printed after the fields of a line that is too long.
+fn push_long(
+    alloc: Global,
+    out: &mut Vec<u8>,
+    what: &OutputOptions<'_>,
+    name: Option<&[u8]>,
+    role: Role,
+    line: &[u8],
+    marks: &[Span],
+    shown: &[Span],
+) -> Result<(), AllocError>
+    ensures { OnOk result (out.new.items ≡ out.old.items
+        ++ long_text what.now (option_map (λ n. n.now) name.entry) role line.now (map span_pair marks.now) (map span_pair shown.now)) }
+{
+    if what.preview {
+        return push_preview(alloc, out, what, name, role, line, marks, shown);
+    }
+    push_omission(alloc, out, what, name, role, shown.len())
+}
+
+/// Appends a line after its fields, with these of the matches that are shown in it marked.
 fn push_text(
     alloc: Global,
     out: &mut Vec<u8>,
@@ -414,16 +439,17 @@ fn push_text(
     role: Role,
     line: Line<'_>,
     marks: &[Span],
-    count: usize,
+    shown: &[Span],
 ) -> Result<(), Fault>
     ensures { OnOk result (out.new.items ≡ out.old.items
-        ++ line_text what.now (option_map (λ n. n.now) name.entry) role (text_line line.entry) (map span_pair marks.now) count) }
+        ++ line_text what.now (option_map (λ n. n.now) name.entry) role (text_line line.entry) (map span_pair marks.now)
+        (map span_pair shown.now)) }
 {
     if is_long(what, line)? {
-        push_omission(alloc, out, what, name, role, count)?;
+        push_long(alloc, out, what, name, role, line.bytes, marks, shown)?;
         return Ok(());
     }
-    push_short(out, what, name, line.bytes, marks)?;
+    push_short(out, what, name, role, line.bytes, marks)?;
     Ok(())
 }
 
@@ -461,10 +487,10 @@ fn push_once(
         column,
         line.place,
     )?;
-    push_text(alloc, out, what, name, role, line, shown, shown.len())
+    push_text(alloc, out, what, name, role, line, shown, shown)
 }
 
-/// Appends a line for one of its matches. It has so many.
+/// Appends a line for one of the matches that are shown in it.
 fn push_for(
     alloc: Global,
     out: &mut Vec<u8>,
@@ -472,16 +498,17 @@ fn push_for(
     name: Option<&[u8]>,
     role: Role,
     line: Line<'_>,
-    count: usize,
+    shown: &[Span],
     span: Span,
 ) -> Result<(), Fault>
     ensures { OnOk result (out.new.items ≡ out.old.items
-        ++ printed_for what.now (option_map (λ n. n.now) name.entry) role (text_line line.entry) count (span_pair span)) }
+        ++ printed_for what.now (option_map (λ n. n.now) name.entry) role (text_line line.entry) (map span_pair shown.now)
+        (span_pair span)) }
 {
     let column = column_of(what, span)?;
     let place = sum(line.place, span.start as u64)?;
     push_fields(alloc, out, what, name, role, line.number, column, place)?;
-    push_text(alloc, out, what, name, role, line, &[span], count)
+    push_text(alloc, out, what, name, role, line, &[span], shown)
 }
 
 /// Appends a line once for each of its matches.
@@ -495,11 +522,11 @@ fn push_for_each(
     shown: &[Span],
 ) -> Result<(), Fault>
     ensures { OnOk result (out.new.items ≡ out.old.items
-        ++ flat_map (printed_for what.now (option_map (λ n. n.now) name.entry) role (text_line line.entry) (length shown.now))
+        ++ flat_map (printed_for what.now (option_map (λ n. n.now) name.entry) role (text_line line.entry) (map span_pair shown.now))
         (map span_pair shown.now)) }
 {
     for span in shown {
-        push_for(alloc, out, what, name, role, line, shown.len(), *span)?;
+        push_for(alloc, out, what, name, role, line, shown, *span)?;
     }
     Ok(())
 }
@@ -548,7 +575,7 @@ fn push_separator_line(
 ) -> Result<(), AllocError>
     ensures { OnOk result (out.new.items ≡ out.old.items ++ separator_line what.now (Some text.now)) }
 {
-    push_marked(out, what.color, b"36", text)?;
+    push_marked(out, &what.color, Part::Separator, text)?;
     out.push(b'\n')?;
     Ok(())
 }

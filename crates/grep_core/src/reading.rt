@@ -17,6 +17,7 @@ use crate::fault::Fault;
 use crate::feeds::feed_at;
 use crate::finder::Finder;
 use crate::line_buffer::LineBuffer;
+use crate::long_lines::{prints_matches, write_line};
 use crate::output_options::{OutputOptions, Print};
 use crate::progress::{Progress, Task};
 use crate::reporter::{Reporter, counted_as, is_over, report_end};
@@ -37,6 +38,9 @@ const FIRST_BLOCKS: u64 = 16;
 /// The greatest number of bytes that a line may have.
 const LONGEST: usize = 1 << 30;
 
+/// From this many bytes on, the matches of a line are printed one after the other. Those of shorter lines are listed first.
+const LONG: usize = 1 << 20;
+
 /// What follows a block.
 #[derive(Clone, Copy)]
 enum Next {
@@ -47,7 +51,7 @@ enum Next {
 }
 
 /// Writes all bytes. On an error, the bytes that were written are a prefix of them.
-fn write_out<W: Write>(writer: &mut W, out: &[u8]) -> Result<(), Fault>
+pub(crate) fn write_out<W: Write>(writer: &mut W, out: &[u8]) -> Result<(), Fault>
     ensures ok { OnOk result (Appends (W.contents writer.old) (W.contents writer.new) out.now) }
     ensures part { IfErr result (λ _. (n : ℕ) × Appends (W.contents writer.old) (W.contents writer.new) (take n out.now)) }
 {
@@ -80,7 +84,7 @@ fn is_task_over(task: Task<'_>, progress: &Progress) -> bool
 
 /// Processes the whole lines of the buffered input, writes their output, and keeps the bytes after them. Returns whether nothing more is
 /// printed.
-fn report_read<W: Write>(
+fn report_lines<W: Write>(
     alloc: Global,
     writer: &mut W,
     finder: &mut Finder<'_>,
@@ -110,6 +114,90 @@ fn report_read<W: Write>(
     }
     read.forget(done);
     Ok(is_task_over(task, progress))
+}
+
+/// Whether an input is so long that the matches of its first line are printed one after the other, if matches are printed alone.
+fn begins_long(task: Task<'_>, read: &[u8]) -> bool
+    ensures { IsTrue result → 0 < length read.now }
+{
+    read.len() >= LONG && prints_matches(task.what)
+}
+
+/// Writes the output for the first line of an input if it is long and its matches may be printed, while these are searched for. Returns the
+/// offset after that line, or 0 if it is left to other calls.
+fn write_first_line<W: Write>(
+    alloc: Global,
+    writer: &mut W,
+    finder: &mut Finder<'_>,
+    task: Task<'_>,
+    read: &[u8],
+    progress: &mut Progress,
+) -> Result<usize, Fault>
+    requires { Waits task.what.now progress.old.telling.course }
+    ensures same { finder.new ≡ finder.old }
+    ensures waits { OnOk result (Waits task.entry.what.now progress.new.telling.course) }
+    ensures within { IfOk result (λ done. done ≤ length read.now) }
+    ensures writes { IfOk result (λ done. (by : SearchesBy task.entry finder.old) (more : List ℕ) →
+        Writes task.entry (finds_by task.entry by) progress.old progress.new (read.now ++ more) (drop done read.now ++ more)
+        (W.contents writer.old) (W.contents writer.new)) }
+    ensures fault { IfErr result (λ _. (by : SearchesBy task.entry finder.old) (more : List ℕ) →
+        WritesPart task.entry (finds_by task.entry by) progress.old (read.now ++ more) (W.contents writer.old)
+        (W.contents writer.new)) }
+{
+    if !begins_long(task, read) {
+        return Ok(0);
+    }
+    let Some(len) = feed_at(read) else {
+        return Ok(0);
+    };
+    match write_line(alloc, writer, finder, task, progress, &read[..len], true) {
+        Ok(()) => {}
+        Err(e) => return Err(e),
+    }
+    Ok(len + 1)
+}
+
+/// Removes the first bytes of the buffered input, if there are any to remove.
+fn forget_some(read: &mut LineBuffer, done: usize)
+    requires { done ≤ length read.old }
+    ensures { read.new ≡ drop done read.old }
+{
+    if done > 0 {
+        read.forget(done);
+    }
+}
+
+/// Processes the whole lines of the buffered input, the first one while its matches are searched for if it is long. Returns whether nothing
+/// more is printed.
+fn report_read<W: Write>(
+    alloc: Global,
+    writer: &mut W,
+    finder: &mut Finder<'_>,
+    task: Task<'_>,
+    read: &mut LineBuffer,
+    progress: &mut Progress,
+) -> Result<bool, Fault>
+    requires { Waits task.what.now progress.old.telling.course }
+    ensures same { finder.new ≡ finder.old }
+    ensures waits { OnOk result (Waits task.entry.what.now progress.new.telling.course) }
+    ensures writes { OnOk result ((by : SearchesBy task.entry finder.old) (more : List ℕ) →
+        Writes task.entry (finds_by task.entry by) progress.old progress.new (read.old ++ more) (read.new ++ more)
+        (W.contents writer.old) (W.contents writer.new)) }
+    ensures over { IfOk result (λ over. IsTrue over → IsOver task.entry progress.new) }
+    ensures fault { IfErr result (λ _. (by : SearchesBy task.entry finder.old) (more : List ℕ) →
+        WritesPart task.entry (finds_by task.entry by) progress.old (read.old ++ more) (W.contents writer.old)
+        (W.contents writer.new)) }
+{
+    let done = match write_first_line(alloc, writer, finder, task, read.bytes(), progress) {
+        Ok(done) => done,
+        Err(e) => return Err(e),
+    };
+    forget_some(read, done);
+    let over = match report_lines(alloc, writer, finder, task, read, progress) {
+        Ok(over) => over,
+        Err(e) => return Err(e),
+    };
+    Ok(over)
 }
 
 /// How many bytes the next read asks for, after this many blocks.
@@ -268,7 +356,7 @@ fn report_tail(
 }
 
 /// Processes all that is left of an input that has ended, and writes the output.
-fn write_tail<W: Write>(
+fn write_lines<W: Write>(
     alloc: Global,
     writer: &mut W,
     finder: &mut Finder<'_>,
@@ -324,6 +412,78 @@ fn write_end<W: Write>(
         Err(_) => return Err(Fault::NoMemory),
     }
     match write_out(writer, &out) {
+        Ok(()) => Ok(()),
+        Err(e) => Err(e),
+    }
+}
+
+/// Whether an input that has ended is one long line without a line feed whose matches may be printed.
+fn is_long_line(task: Task<'_>, read: &[u8]) -> bool
+    ensures open { IsTrue result → position (λ b. b == 10) read.now ≡ None }
+    ensures some { IsTrue result → 0 < length read.now }
+{
+    begins_long(task, read) && feed_at(read).is_none()
+}
+
+/// Writes the output for a last line that no line feed ends, while its matches are searched for, and what is printed after it.
+fn write_last_line<W: Write>(
+    alloc: Global,
+    writer: &mut W,
+    finder: &mut Finder<'_>,
+    task: Task<'_>,
+    read: &[u8],
+    progress: &mut Progress,
+) -> Result<(), Fault>
+    requires waits { Waits task.what.now progress.old.telling.course }
+    requires open { position (λ b. b == 10) read.now ≡ None }
+    requires some { 0 < length read.now }
+    ensures same { finder.new ≡ finder.old }
+    ensures written { OnOk result ((by : SearchesBy task.entry finder.old) →
+        Appends (W.contents writer.old) (W.contents writer.new)
+        (reported_bytes task.entry (finds_by task.entry by) progress.old (split_lines read.now))) }
+    ensures counts { OnOk result ((by : SearchesBy task.entry finder.old) →
+        counts_lines task.entry (finds_by task.entry by) progress.new []
+        ≡ counts_lines task.entry (finds_by task.entry by) progress.old (split_lines read.now)) }
+    ensures fault { IfErr result (λ _. (by : SearchesBy task.entry finder.old) →
+        WritesPart task.entry (finds_by task.entry by) progress.old read.now (W.contents writer.old) (W.contents writer.new)) }
+{
+    match write_line(alloc, writer, finder, task, progress, read, false) {
+        Ok(()) => {}
+        Err(e) => return Err(e),
+    }
+    match write_end(alloc, writer, task, progress) {
+        Ok(()) => Ok(()),
+        Err(e) => Err(e),
+    }
+}
+
+/// Processes all that is left of an input that has ended, and writes the output, for a long line while its matches are searched for.
+fn write_tail<W: Write>(
+    alloc: Global,
+    writer: &mut W,
+    finder: &mut Finder<'_>,
+    task: Task<'_>,
+    read: &[u8],
+    progress: &mut Progress,
+) -> Result<(), Fault>
+    requires { Waits task.what.now progress.old.telling.course }
+    ensures same { finder.new ≡ finder.old }
+    ensures written { OnOk result ((by : SearchesBy task.entry finder.old) →
+        Appends (W.contents writer.old) (W.contents writer.new)
+        (reported_bytes task.entry (finds_by task.entry by) progress.old (split_lines read.now))) }
+    ensures counts { OnOk result ((by : SearchesBy task.entry finder.old) →
+        counts_lines task.entry (finds_by task.entry by) progress.new []
+        ≡ counts_lines task.entry (finds_by task.entry by) progress.old (split_lines read.now)) }
+    ensures fault { IfErr result (λ _. (by : SearchesBy task.entry finder.old) →
+        WritesPart task.entry (finds_by task.entry by) progress.old read.now (W.contents writer.old) (W.contents writer.new)) }
+{
+    if is_long_line(task, read) {
+        return match write_last_line(alloc, writer, finder, task, read, progress) {
+            Ok(()) => Ok(()),
+            Err(e) => Err(e),
+        };
+    }
+    match write_lines(alloc, writer, finder, task, read, progress) {
         Ok(()) => Ok(()),
         Err(e) => Err(e),
     }

@@ -9,13 +9,13 @@ ghost use Rattle.grep_core.specs.Selecting.{count_selected};
 ghost use Rattle.grep_core.specs.Reporting.{shown, added, added_matches, counts_matches, prints_lines, reported_lines, may_select, still_reported, count_in_all};
 ghost use Rattle.grep_core.specs.declared.output_options.OutputOptions.{OutputOptions as TheOutputOptions};
 
+use crate::colors::{Part, push_marked};
 use crate::context_printer::{ContextPrinter, next_line, see_end};
 use crate::fault::Fault;
 use crate::line::Line;
 use crate::output_options::{OutputOptions, Print};
-use crate::printing::{push_marked, push_name_field};
+use crate::printing::push_name_before;
 use crate::progress::sum;
-use crate::role::Role;
 use crate::separator_state::SeparatorState;
 use search_types::Span;
 use std::alloc::{AllocError, Global};
@@ -49,7 +49,7 @@ pub(crate) fn prints_lines(print: Print) -> bool
 }
 
 /// Whether one more line may be selected, after this many.
-fn may_select(what: &OutputOptions<'_>, count: u64) -> bool
+pub(crate) fn may_select(what: &OutputOptions<'_>, count: u64) -> bool
     ensures { result ≡ may_select what.now.most count }
 {
     match what.most {
@@ -98,7 +98,7 @@ fn report_by_flags(
 }
 
 /// Adds one to the count if a line is selected.
-fn count_more(count: u64, is_selected: bool) -> Result<u64, Fault>
+pub(crate) fn count_more(count: u64, is_selected: bool) -> Result<u64, Fault>
     ensures { IfOk result (λ n. n ≡ count + (if is_selected then 1 else 0)) }
 {
     if !is_selected {
@@ -210,7 +210,7 @@ fn push_count(
     let Some(name) = name else {
         return push_number(alloc, out, count);
     };
-    push_name_field(out, what, Role::Selected, name)?;
+    push_name_before(out, what, b":", name)?;
     push_number(alloc, out, count)
 }
 
@@ -222,7 +222,7 @@ pub(crate) fn push_name(
 ) -> Result<(), AllocError>
     ensures { OnOk result (out.new.items ≡ out.old.items ++ name_line what.now name.now) }
 {
-    push_marked(out, what.color, b"35", name)?;
+    push_marked(out, &what.color, Part::Name, name)?;
     out.push(if what.zero_names { 0 } else { b'\n' })?;
     Ok(())
 }

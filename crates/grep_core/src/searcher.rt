@@ -1,7 +1,9 @@
 //! Searches lines for patterns by automata.
-ghost use Rattle.std.specs.Prelude.{◌≡◌, ◌<◌, ◌∷◌, [], ℕ, List, All, IfErr, IfOk, IfSome, map};
+ghost use Rattle.std.specs.Prelude.{◌≡◌, ◌<◌, ◌≤◌, ◌∷◌, [], ℕ, List, All, IfErr, IfOk, IfSome, length, map, option_map};
 ghost use Rattle.hir_core.specs.Facts.{LoopsRead};
 ghost use Rattle.hirscan.specs.Built.{IsBuilt, FailsBuild};
+ghost use Rattle.pattern_search.specs.Searches.{span_of_found, whole_search};
+ghost use Rattle.grep_core.specs.LongLines.{IsFoundSpan};
 ghost use Rattle.grep_core.specs.Printing.{span_pair};
 ghost use Rattle.grep_core.specs.declared.patterns.PatternOptions.{PatternOptions};
 ghost use Rattle.grep_core.specs.Searchers.{IsSearcherOf, IsMatchReported, AreReported, IsLineError, IsResized, line_settings};
@@ -14,7 +16,7 @@ use lazy_dfa::BuildError;
 use pattern_search::PatternError;
 use pattern_search::regex_laws::regexes_answer_what_patterns_say;
 use regex_pair::regex::{Cache, Regex};
-use search_types::{Input, MatchError, Span};
+use search_types::{Input, Match, MatchError, Span};
 use std::alloc::{AllocError, Global};
 use std::marker::Model;
 use std::sync::Arc;
@@ -52,6 +54,24 @@ impl Model for Searcher {
 pub(crate) fn see_bytes(bytes: &[u8])
     ensures { All (λ byte. byte < 256) bytes.now }
 {}
+
+/// A search of the line from an offset on.
+fn search_from(line: &[u8], start: usize) -> Input<'_>
+    requires { start ≤ length line.now }
+    ensures { result ≡ whole_search line.now start }
+{
+    Input::new(line).range(start..line.len())
+}
+
+/// The span of a match.
+fn span_of(found: Option<Match>) -> Option<Span>
+    ensures { option_map span_pair result ≡ option_map span_of_found found }
+{
+    match found {
+        Some(it) => Some(it.span()),
+        None => None,
+    }
+}
 
 impl Searcher {
     /// A searcher by this regex, with empty caches.
@@ -124,6 +144,26 @@ impl Searcher {
             Err(e) => return Err(e),
         };
         Ok(found.is_some())
+    }
+
+    /// The span of the leftmost match that starts at an offset of a line or after it. A search that meets a quit byte returns an error.
+    pub(crate) fn find_from(
+        &mut self,
+        line: &[u8],
+        start: usize,
+    ) -> Result<Option<Span>, MatchError>
+        requires { start ≤ length line.now }
+        ensures same { self.new.0 ≡ self.old.0 }
+        ensures reported { (how : PatternOptions) (texts : List (List ℕ)) → (it : IsSearcherOf how texts self.old.0) →
+            LoopsRead it.tree → IfOk result (λ found. IsFoundSpan how texts line.now start (option_map span_pair found)) }
+    {
+        see_bytes(line);
+        regexes_answer_what_patterns_say();
+        let found = match find(&self.regex, &mut self.cache, &search_from(line, start)) {
+            Ok(found) => found,
+            Err(e) => return Err(e),
+        };
+        Ok(span_of(found))
     }
 
     /// The matches of a line, from left to right. A search that meets a quit byte returns an error.

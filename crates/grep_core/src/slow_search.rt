@@ -1,11 +1,13 @@
 //! Searches lines in which automata give up, by a program of the toolchain.
-ghost use Rattle.std.specs.Prelude.{◌≡◌, IfOk, IfSome, map};
+ghost use Rattle.std.specs.Prelude.{◌≡◌, ◌≤◌, IfOk, IfSome, length, map, option_map};
 ghost use Rattle.grep_core.specs.Fallbacks.{IsProgramOf};
+ghost use Rattle.grep_core.specs.LongLines.{IsFoundSpan};
 ghost use Rattle.grep_core.specs.Printing.{span_pair};
 ghost use Rattle.grep_core.specs.Searchers.{AreReplaced, IsMatchReported, AreReported};
 
 use crate::fallback::{
-    SIZE_LIMIT, all_matches, all_matches_anew, has_one, has_one_anew, program_of,
+    SIZE_LIMIT, all_matches, all_matches_anew, found_from, found_from_anew, has_one, has_one_anew,
+    program_of,
 };
 use crate::fault::Fault;
 use crate::line_patterns::LinePatterns;
@@ -243,6 +245,62 @@ impl<'t> SlowSearch<'t> {
         }
         match self.replaced_kept(alloc, line, template) {
             Ok(replaced) => Ok(replaced),
+            Err(e) => Err(e),
+        }
+    }
+
+    /// The span of the match from an offset of the line on, by the searcher that is kept, if there is one.
+    fn find_kept(&mut self, line: &[u8], start: usize) -> Option<Option<Span>>
+        requires { start ≤ length line.now }
+        ensures same { self.new ≡ self.old }
+        ensures reported { IfSome result (λ found. IsFoundSpan self.old.0 self.old.1 line.now start (option_map span_pair found)) }
+    {
+        let Some(searcher) = &mut self.kept else {
+            return None;
+        };
+        let found = found_from(searcher, line, start);
+        Some(found)
+    }
+
+    /// The span of the match from an offset of the line on, by a searcher that is made for it.
+    fn find_anew(&mut self, alloc: Global, line: &[u8], start: usize) -> Result<Option<Span>, Fault>
+        requires { start ≤ length line.now }
+        ensures same { self.new ≡ self.old }
+        ensures reported { IfOk result (λ found. IsFoundSpan self.old.0 self.old.1 line.now start (option_map span_pair found)) }
+    {
+        let program = match self.take_program(alloc) {
+            Ok(program) => program,
+            Err(e) => return Err(e),
+        };
+        let reported = found_from_anew(alloc, &program, line, start);
+        self.program = Some(program);
+        let found = match reported {
+            Ok(found) => found,
+            Err(_) => return Err(Fault::NoMemory),
+        };
+        Ok(found)
+    }
+
+    /// The span of the leftmost match that starts at an offset of the line or after it.
+    pub(crate) fn find_from(
+        &mut self,
+        alloc: Global,
+        line: &[u8],
+        start: usize,
+    ) -> Result<Option<Span>, Fault>
+        requires { start ≤ length line.now }
+        ensures same { self.new ≡ self.old }
+        ensures reported { IfOk result (λ found. IsFoundSpan self.old.0 self.old.1 line.now start (option_map span_pair found)) }
+    {
+        match self.ready(alloc) {
+            Ok(()) => {}
+            Err(e) => return Err(e),
+        }
+        if let Some(found) = self.find_kept(line, start) {
+            return Ok(found);
+        }
+        match self.find_anew(alloc, line, start) {
+            Ok(found) => Ok(found),
             Err(e) => Err(e),
         }
     }

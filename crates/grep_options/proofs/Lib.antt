@@ -1,2 +1,3 @@
 pub mod ReadValues
 pub mod Rows
+mod EscapeLemmas

@@ -139,7 +139,8 @@ printing_options =
     count_options
     ++ (flag (codes "only-matching") (codes "o")
     ∷ flag (codes "no-messages") (codes "s")
-    ∷ flag (codes "line-number") (codes "n")
+    ∷ flag_over (codes "line-number") (codes "n") (codes "no-line-number")
+    ∷ flag_over (codes "no-line-number") (codes "N") (codes "line-number")
     ∷ flag (codes "byte-offset") (codes "b")
     ∷ quiet_option
     ∷ [])
@@ -175,6 +176,34 @@ type_options =
     ∷ flag (codes "type-list") []
     ∷ []
 
+-- Ignore files. Of the first three the last one takes effect.
+abbrev pub ignore_switches : List OptionRow
+ignore_switches =
+    flag_over (codes "ignore") [] (codes "no-ignore")
+    ∷ flag_over (codes "no-ignore") [] (codes "ignore")
+    ∷ flag_over (codes "unrestricted") (codes "u") (codes "ignore")
+    ∷ option (codes "ignore-file") [] Append
+    ∷ []
+
+-- which ignore files of folders are read
+abbrev pub ignore_limits : List OptionRow
+ignore_limits =
+    flag (codes "no-ignore-vcs") []
+    ∷ flag (codes "no-ignore-dot") []
+    ∷ flag (codes "no-ignore-parent") []
+    ∷ flag (codes "no-require-git") []
+    ∷ []
+
+-- globs in which letters match in either case
+abbrev pub glob_cases : List OptionRow
+glob_cases =
+    option (codes "iglob") [] Append
+    ∷ flag (codes "glob-case-insensitive") []
+    ∷ []
+
+abbrev pub ignore_options : List OptionRow
+ignore_options = ignore_switches ++ (ignore_limits ++ glob_cases)
+
 abbrev pub file_options : List OptionRow
 file_options =
     glob_options
@@ -183,7 +212,7 @@ file_options =
     ∷ option (codes "max-depth") [] Set
     ∷ option (codes "sort") [] Set
     ∷ flag (codes "files") []
-    ∷ []))
+    ∷ ignore_options))
 
 abbrev pub paired_options : List OptionRow
 paired_options =
@@ -193,12 +222,16 @@ paired_options =
     ∷ flag_over (codes "files-without-match") (codes "L") (codes "files-with-matches")
     ∷ []
 
+-- Of these and `passthru` the later one takes effect.
+abbrev pub context_option : List ℕ → List ℕ → OptionRow
+context_option name letter = record (option name letter Set) { turns_off = codes "passthru" ∷ [] }
+
 abbrev pub number_options : List OptionRow
 number_options =
     option (codes "max-count") (codes "m") Set
-    ∷ option (codes "after-context") (codes "A") Set
-    ∷ option (codes "before-context") (codes "B") Set
-    ∷ option (codes "context") (codes "C") Set
+    ∷ context_option (codes "after-context") (codes "A")
+    ∷ context_option (codes "before-context") (codes "B")
+    ∷ context_option (codes "context") (codes "C")
     ∷ []
 
 -- Of these two the later one takes effect.
@@ -209,17 +242,30 @@ abbrev pub no_separator : OptionRow
 no_separator = flag_over (codes "no-group-separator") [] (codes "group-separator")
 
 abbrev pub passthru_option : OptionRow
-passthru_option = record (flag (codes "passthru") []) { aliases = codes "passthrough" ∷ [] }
+passthru_option = record (flag (codes "passthru") []) {
+  aliases = codes "passthrough" ∷ [];
+  turns_off = codes "after-context" ∷ codes "before-context" ∷ codes "context" ∷ [];
+}
 
--- which lines are printed, and how
+-- Which lines are printed, and how. Of the first two the later one takes effect.
 abbrev pub line_options : List OptionRow
 line_options =
-    flag (codes "column") []
+    flag_over (codes "column") [] (codes "no-column")
+    ∷ flag_over (codes "no-column") [] (codes "column")
     ∷ flag (codes "vimgrep") []
     ∷ flag (codes "trim") []
     ∷ option (codes "max-columns") (codes "M") Set
+    ∷ flag (codes "max-columns-preview") []
     ∷ passthru_option
     ∷ option (codes "replace") [] Set
+    ∷ []
+
+-- what separates fields, and the parts of names
+abbrev pub separator_options : List OptionRow
+separator_options =
+    option (codes "field-match-separator") [] Set
+    ∷ option (codes "field-context-separator") [] Set
+    ∷ option (codes "path-separator") [] Set
     ∷ []
 
 -- Names above lines. Of the first two the later one takes effect.
@@ -237,7 +283,7 @@ format_options =
     ∷ flag (codes "initial-tab") (codes "T")
     ∷ given_separator
     ∷ no_separator
-    ∷ (line_options ++ heading_options)
+    ∷ (line_options ++ (separator_options ++ heading_options))
 
 -- Which files with zero bytes are text. Of these three the last one takes effect. The last of them has no long name.
 abbrev pub text_option : OptionRow
@@ -259,11 +305,12 @@ binary_options =
     ∷ skip_option
     ∷ []
 
--- These change nothing: no carriage return is removed, and lines are written before more input is read.
+-- These change nothing: no carriage return is removed, lines are written before more input is read, and counts of 0 are printed.
 abbrev pub accepted_options : List OptionRow
 accepted_options =
     flag (codes "binary") (codes "U")
     ∷ flag (codes "line-buffered") []
+    ∷ flag (codes "include-zero") []
     ∷ []
 
 -- A use of this option without a value counts as `auto`.

@@ -1,4 +1,5 @@
 pub mod CommandLine
+pub mod Escapes
 pub mod FileOptions
 pub mod Numbers
 pub mod Options

@@ -5,11 +5,12 @@ ghost use Rattle.clap.specs.declared.builder.action.ArgAction.TheVariants.{Appen
 ghost use Rattle.grep_options.specs.CommandLine.{AddsOptions, file_options, flag, glob_options, option, type_options};
 ghost use Rattle.grep_options.specs.FileOptions.{earlier, file_values, given_of, with_option, with_value, with_values};
 
+use crate::ignoring::push_ignoring;
 use crate::options::{list, option, push, push_long};
 use clap::{Arg, ArgAction, ArgMatches, value_parser};
 use std::alloc::{AllocError, Global};
 
-fn push_list<'a>(
+pub(crate) fn push_list<'a>(
     alloc: Global,
     args: &mut Vec<Arg<'a>>,
     id: &'a str,
@@ -90,7 +91,8 @@ pub fn push_files<'a>(alloc: Global, args: &mut Vec<Arg<'a>>) -> Result<(), Allo
     push_depth(alloc, args)?;
     push_sort(alloc, args)?;
     let help = "print the names of the files that would be searched, without a pattern";
-    push_long(alloc, args, "files", help)
+    push_long(alloc, args, "files", help)?;
+    push_ignoring(alloc, args)
 }
 
 /// Which option a value is of.

@@ -6,13 +6,16 @@
 
 mod binary;
 mod case;
+mod escapes;
 mod files;
 mod format;
 mod headings;
+mod ignoring;
 mod numbers;
 mod options;
 mod values;
 
+pub use escapes::unescaped;
 pub use files::{FileOption, FileValue, file_values};
 pub use numbers::with_numbers;
 pub use options::command;

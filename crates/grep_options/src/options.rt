@@ -2,7 +2,7 @@
 ghost use Rattle.std.specs.Prelude.{◌≡◌, ◌∷◌, [], OnOk, IfOk, codes};
 ghost use Rattle.clap.specs.Words.{args_of};
 ghost use Rattle.clap.specs.declared.builder.action.ArgAction.TheVariants.{Append, Help, Set, Version};
-ghost use Rattle.grep_options.specs.CommandLine.{AddsOptions, accepted_options, case_options, color_option, count_options, directories_option};
+ghost use Rattle.grep_options.specs.CommandLine.{AddsOptions, accepted_options, case_options, color_option, context_option, count_options, directories_option};
 ghost use Rattle.grep_options.specs.CommandLine.{flag, flag_over, flag_without, folder_options, ignore_option, list_options, number_options, option, option_row, option_rows, options};
 ghost use Rattle.grep_options.specs.CommandLine.{other_options, paired_options, printing_options, quiet_option, selecting_options};
 ghost use Rattle.grep_options.specs.CommandLine.{syntax_options, turning_off, words_option};
@@ -55,7 +55,7 @@ pub(crate) fn push_flag<'a>(
 }
 
 /// Appends a flag with a letter that turns off another option.
-fn push_pair<'a>(
+pub(crate) fn push_pair<'a>(
     alloc: Global,
     args: &mut Vec<Arg<'a>>,
     id: &'a str,
@@ -161,7 +161,9 @@ fn push_accepted<'a>(alloc: Global, args: &mut Vec<Arg<'a>>) -> Result<(), Alloc
     let binary = "accepted: no carriage return is removed";
     push_flag(alloc, args, "binary", 'U', binary)?;
     let help = "accepted: selected lines are always written before more input is read";
-    push_long(alloc, args, "line-buffered", help)
+    push_long(alloc, args, "line-buffered", help)?;
+    let help = "accepted: counts of 0 are always printed";
+    push_long(alloc, args, "include-zero", help)
 }
 
 fn push_counts<'a>(alloc: Global, args: &mut Vec<Arg<'a>>) -> Result<(), AllocError>
@@ -184,8 +186,11 @@ fn push_printing<'a>(alloc: Global, args: &mut Vec<Arg<'a>>) -> Result<(), Alloc
     push_flag(alloc, args, "only-matching", 'o', matching)?;
     let silent = "suppress messages about files that can't be read";
     push_flag(alloc, args, "no-messages", 's', silent)?;
-    let numbers = "print each line's number before it, counted from 1";
-    push_flag(alloc, args, "line-number", 'n', numbers)?;
+    let (numbers, none) = ("line-number", "no-line-number");
+    let help = "print each line's number before it, counted from 1";
+    push_pair(alloc, args, numbers, 'n', none, help)?;
+    let help = "print no numbers of lines, also with --column, --vimgrep or -p";
+    push_pair(alloc, args, none, 'N', numbers, help)?;
     let offsets = "print the byte offset of its start before it, counted from 0";
     push_flag(alloc, args, "byte-offset", 'b', offsets)?;
     push_quiet(alloc, args)
@@ -293,16 +298,29 @@ fn push_most<'a>(alloc: Global, args: &mut Vec<Arg<'a>>) -> Result<(), AllocErro
     push(args, arg.value_parser(value_parser!(i64)))
 }
 
+fn push_context<'a>(
+    alloc: Global,
+    args: &mut Vec<Arg<'a>>,
+    id: &'a str,
+    short: char,
+    help: &'a str,
+) -> Result<(), AllocError>
+    ensures { OnOk result (AddsOptions args.old.items args.new.items (context_option id.entry.now (short ∷ []) ∷ [])) }
+{
+    let arg = number(alloc, id, short, help);
+    push_over(args, arg.value_parser(value_parser!(u64)), "passthru")
+}
+
 fn push_numbers<'a>(alloc: Global, args: &mut Vec<Arg<'a>>) -> Result<(), AllocError>
     ensures { OnOk result (AddsOptions args.old.items args.new.items number_options) }
 {
     push_most(alloc, args)?;
     let help = "print so many lines after each selected one";
-    push_number(alloc, args, "after-context", 'A', help)?;
+    push_context(alloc, args, "after-context", 'A', help)?;
     let help = "print so many lines before each selected one";
-    push_number(alloc, args, "before-context", 'B', help)?;
-    let help = "print so many lines before and after each selected one; -N is the same";
-    push_number(alloc, args, "context", 'C', help)
+    push_context(alloc, args, "before-context", 'B', help)?;
+    let help = "print so many lines before and after each selected one; -5 is the same as -C 5";
+    push_context(alloc, args, "context", 'C', help)
 }
 
 /// An option that may be given several times, whose values may look like options.
@@ -325,6 +343,11 @@ fn push_lists<'a>(alloc: Global, args: &mut Vec<Arg<'a>>) -> Result<(), AllocErr
     push(args, list(alloc, "directory", "FOLDER", help))
 }
 
+/// The words for when parts are marked: each has two others, as in GNU grep.
+const COLOR_WORDS: [&str; 9] = [
+    "auto", "tty", "if-tty", "always", "yes", "force", "never", "no", "none",
+];
+
 fn push_color<'a>(alloc: Global, args: &mut Vec<Arg<'a>>) -> Result<(), AllocError>
     ensures { OnOk result (AddsOptions args.old.items args.new.items (color_option ∷ [])) }
 {
@@ -333,7 +356,7 @@ fn push_color<'a>(alloc: Global, args: &mut Vec<Arg<'a>>) -> Result<(), AllocErr
         .num_args(0..=1)
         .require_equals(true)
         .default_missing_value("auto")
-        .value_parser(["auto", "always", "never"].as_slice())
+        .value_parser(COLOR_WORDS.as_slice())
         .value_name("WHEN");
     let arg = arg.alias("colour")?;
     push(args, arg)

@@ -33,21 +33,6 @@ fn run_to(set: &ByteSet, haystack: &[u8], from: usize, end: usize) -> usize
     end
 }
 
-/// The offset after a step.
-#[inline(always)]
-fn after(step: &Step, haystack: &[u8], at: usize, end: usize) -> usize
-    requires ordered { (at ≤ end) × (end ≤ length haystack.now) }
-    ensures is { result ≡ after_step haystack.now end step.now at }
-    ensures within { result ≤ end }
-{
-    match step {
-        Step::Skip(count) => at + (end - at).min(*count),
-        Step::Run(set) => run_to(set, haystack, at, end),
-        Step::Rest(count) => end.saturating_sub(*count),
-        Step::Save(_) => at,
-    }
-}
-
 /// Writes an offset into the slot with this number, if there is one.
 #[inline(always)]
 fn save(slots: &mut [usize], slot: usize, offset: usize)
@@ -58,16 +43,22 @@ fn save(slots: &mut [usize], slot: usize, offset: usize)
     }
 }
 
-/// Writes what a step writes.
+/// Writes what a step writes, and returns the offset after it.
 #[inline(always)]
-fn write(step: &Step, slots: &mut [usize], at: usize)
-    ensures { slots.new ≡ written (step_writes step.now at []) slots.old }
+fn go(step: &Step, haystack: &[u8], at: usize, end: usize, slots: &mut [usize]) -> usize
+    requires ordered { (at ≤ end) × (end ≤ length haystack.now) }
+    ensures is { result ≡ after_step haystack.now end step.now at }
+    ensures within { result ≤ end }
+    ensures written { slots.new ≡ written (step_writes step.now at []) slots.old }
 {
     match step {
-        Step::Save(slot) => save(slots, *slot, at),
-        Step::Skip(_) => {}
-        Step::Run(_) => {}
-        Step::Rest(_) => {}
+        Step::Save(slot) => {
+            save(slots, *slot, at);
+            at
+        }
+        Step::Skip(count) => at + (end - at).min(*count),
+        Step::Run(set) => run_to(set, haystack, at, end),
+        Step::Rest(count) => end.saturating_sub(*count),
     }
 }
 
@@ -79,9 +70,7 @@ fn walk(steps: &[Step], haystack: &[u8], start: usize, end: usize, slots: &mut [
 {
     let mut at = start;
     for i in 0..steps.len() {
-        let step = &steps[i];
-        write(step, slots, at);
-        at = after(step, haystack, at, end);
+        at = go(&steps[i], haystack, at, end, slots);
     }
 }
 

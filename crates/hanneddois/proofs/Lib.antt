@@ -1,3 +1,5 @@
 mod ApartSteps
 mod Boxed
+mod BoxedSets
 mod HandleSteps
+mod StreamHandleSteps

@@ -7,6 +7,8 @@
 
 mod apart;
 mod handle;
+pub mod stream_calls;
+mod stream_handle;
 
 ghost use Rattle.std.specs.Prelude.{◌≡◌, ◌≢◌, ◌⊎◌, ◌<◌, ◌≤◌, ◌*◌, Some, None, IfSome, IfOk, IfErr, false, length, nat_eq, replicate};
 ghost use Rattle.std.specs.Prelude.{if◌then◌else◌, nat_lt, true};

@@ -1,3 +1,6 @@
+mod AskedLemmas
+mod ColorLemmas
+mod NameLemmas
 mod SelectingLemmas
 pub mod BinaryLemmas
 pub mod GivenLemmas

@@ -1,11 +1,14 @@
 -- Rules of files that are added value after value.
 use Rattle.std.proofs.Common.{suc, drop, drop-cons, length, map, ◌+◌, ◌<◌, arith, ◌≡◌, ◌∙◌, ℕ, Bool, true, false, List, [], ◌∷◌, ◌++◌, ap, sym, refl, append_assoc, ◌||◌}
 use Rattle.std.proofs.Math.ListN.{get_or}
-use Rattle.std.proofs.lemmas.List.{append-nil}
-use Rattle.std.specs.List.{list_any}
+use Rattle.std.proofs.lemmas.Grind.{flat_map-append}
+use Rattle.std.proofs.lemmas.List.{append-nil, length-append}
+use Rattle.std.proofs.lemmas.List.Concat.{flat_map-cons}
+use Rattle.std.specs.List.{flat_map, list_any}
+use Rattle.globs.specs.Ignoring.{ignore_rules}
 use Rattle.globs.specs.Rules.{Rule}
 use Rattle.grep_options.specs.FileOptions.{Given}
-use Rattle.hirgrep_main.specs.Selecting.{names_rules, value_rules, values_rules}
+use Rattle.hirgrep_main.specs.Selecting.{AreIgnored, names_rules, value_rules, values_rules}
 
 -- Whatever contents later files have, the rules of the values so far and of later ones are those of all of them.
 abbrev pub AreAdded : List Rule → List Rule → List Given → List Given → Type 0
@@ -55,3 +58,29 @@ pub values_cut : {A B : Type 0} (f : A → B) (xs : List A) (i : ℕ) (d : A) �
 values_cut f xs i d below =
     let next : suc i ≡ i + 1 = omega arith in
     ap (map f) (drop-cons xs i d below) ∙ ap (λ (k : ℕ). f (get_or xs i d) ∷ map f (drop k xs)) next
+
+-- ---- the rules of --ignore-file
+
+pub ignored_none : (old : List Rule) → AreIgnored old old 0
+ignored_none old = ([], (refl, sym (append-nil old)))
+
+one_more : (contents : List (List ℕ)) (content : List ℕ)
+    → flat_map ignore_rules (contents ++ content ∷ []) ≡ flat_map ignore_rules contents ++ ignore_rules content
+one_more contents content =
+    flat_map-append ignore_rules contents (content ∷ [])
+    ∙ ap (λ m. flat_map ignore_rules contents ++ m) (flat_map-cons ignore_rules content [] ∙ append-nil (ignore_rules content))
+
+pub ignored_more : (old now new : List Rule) (n : ℕ) (content : List ℕ) → new ≡ now ++ ignore_rules content → AreIgnored old now n
+    → AreIgnored old new (n + 1)
+ignored_more old now new n content e h =
+    let count = length-append h.0 (content ∷ []) in (
+      h.0 ++ content ∷ [],
+      (
+        omega (arith, count, h.1.0),
+        e ∙ (ap (λ m. m ++ ignore_rules content) h.1.1
+            ∙ (append_assoc old (flat_map ignore_rules h.0) (ignore_rules content) ∙ ap (λ m. old ++ m) (sym (one_more h.0 content)))),
+      ),
+    )
+
+pub ignored_as : (old new : List Rule) (n k : ℕ) → n ≡ k → AreIgnored old new n → AreIgnored old new k
+ignored_as old new n k e h = (h.0, (h.1.0 ∙ e, h.1.1))

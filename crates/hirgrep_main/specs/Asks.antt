@@ -5,6 +5,7 @@ use Rattle.std.specs.Option.{option_or}
 use Rattle.clap.specs.Words.{first_value}
 use Rattle.clap.specs.declared.parser.matches.Found.{Found}
 use Rattle.grep_options.specs.Options.{is_set, is_text, limit_given, number_given}
+use Rattle.grep_core.specs.declared.colors.Colors.{Colors}
 use Rattle.grep_core.specs.declared.patterns.PatternOptions.{PatternOptions}
 use Rattle.grep_core.specs.declared.output_options.Context.{Context}
 use Rattle.grep_core.specs.declared.output_options.Print.{Print}
@@ -19,6 +20,7 @@ use Rattle.hirgrep_main.specs.declared.asked.Devices.TheVariants.{ReadAll, ReadN
 use Rattle.hirgrep_main.specs.declared.asked.Directories.{Directories}
 use Rattle.hirgrep_main.specs.declared.asked.Directories.TheVariants.{Reject, Recurse, Skip}
 use Rattle.hirgrep_main.specs.declared.asked.Names.{Names}
+use Rattle.hirgrep_main.specs.declared.asked.Texts.{Texts}
 use Rattle.hirgrep_main.specs.declared.asked.Names.TheVariants.{Always, Never, IfSeveral}
 
 -- -F, -i, -x, -w, --crlf: how patterns are interpreted.
@@ -53,16 +55,16 @@ context_by None (Some after) = Some (record { before = 0; after = after; first =
 abbrev pub all_lines : Option Context
 all_lines = Some (record { before = 0; after = 2 ^ 64 - 1; first = 2 ^ 64 - 1 })
 
--- -B, -A, -C, --passthru: the first two take precedence over the third, and the last one over all of them.
+-- -B, -A, -C, --passthru: the first two take precedence over the third. The last one and the others have turned off each other.
 abbrev pub context_of : Found → Option Context
 context_of f = if is_set f (codes "passthru") then all_lines else context_by (option_or (number_given f (codes "before-context")) (number_given f (codes "context")))
     (option_or (number_given f (codes "after-context")) (number_given f (codes "context")))
 
--- --color: `auto` marks what goes to a terminal that supports colours.
+-- --color: some words mark what goes to a terminal that supports colours, and some what goes anywhere.
 abbrev pub color_by : Option (List ℕ) → Bool → Bool
 color_by word is_colorful =
-    if is_text (codes "always") word then true
-    else if is_text (codes "auto") word then is_colorful
+    if is_text (codes "always") word || is_text (codes "yes") word || is_text (codes "force") word then true
+    else if is_text (codes "auto") word || is_text (codes "tty") word || is_text (codes "if-tty") word then is_colorful
     else false
 
 -- --color, -p, --vimgrep: without the first one the second one marks what is printed, and the third one doesn't.
@@ -107,9 +109,15 @@ group_given f =
     if is_set f (codes "no-group-separator") || is_set f (codes "passthru") then None
     else Some (unwrap_or (first_value f (codes "group-separator")) (codes "--"))
 
--- --column, --vimgrep: columns are printed.
+-- -n, -p, --column, --vimgrep, -N: numbers of lines are printed. The last one takes precedence, and has turned off -n.
+abbrev pub has_numbers : Found → Bool
+has_numbers f =
+    not (is_set f (codes "no-line-number"))
+    && (is_set f (codes "line-number") || is_set f (codes "pretty") || is_set f (codes "column") || is_set f (codes "vimgrep"))
+
+-- --column, --vimgrep, --no-column: columns are printed. The last one takes precedence.
 abbrev pub has_columns : Found → Bool
-has_columns f = is_set f (codes "column") || is_set f (codes "vimgrep")
+has_columns f = not (is_set f (codes "no-column")) && (is_set f (codes "column") || is_set f (codes "vimgrep"))
 
 -- -M: the greatest number of bytes of a line that is printed. 0 is no limit.
 abbrev pub most_bytes_by : Option ℕ → Option ℕ
@@ -120,33 +128,41 @@ most_bytes_by (Some n) = if nat_lt 0 n then Some n else None
 abbrev pub template_given : Found → Option (List ℕ)
 template_given f = first_value f (codes "replace")
 
--- -v, -n, -p, -b, -m, -Z, -T, --trim, and what is above. The width of numbers depends on the input.
-abbrev pub what_of : Found → Bool → GroupSeparator → Option (Bor (List ℕ)) → OutputOptions
-what_of f is_colorful groups replacement = record {
+-- --color, with these colours
+abbrev pub colors_of : Found → Bool → Colors → Option Colors
+colors_of f is_colorful colors = if color_of f is_colorful then Some colors else None
+
+-- -v, -b, -m, -Z, -T, --trim, --max-columns-preview, and what is above. The width of numbers depends on the input. The colours are given, and
+-- so are the separators of --field-match-separator and --field-context-separator, and the template of --replace.
+abbrev pub what_of : Found → Bool → Texts → GroupSeparator → Option (Bor (List ℕ)) → OutputOptions
+what_of f is_colorful texts groups replacement = record {
   invert = is_set f (codes "invert-match");
   print = print_of f;
-  numbers = is_set f (codes "line-number") || is_set f (codes "pretty") || has_columns f;
+  numbers = has_numbers f;
   columns = has_columns f;
   each_match = is_set f (codes "vimgrep");
   offsets = is_set f (codes "byte-offset");
   context = context_of f;
   most = limit_given f (codes "max-count");
-  color = color_of f is_colorful;
+  color = colors_of f is_colorful texts.colors;
+  match_separator = texts.match_separator;
+  context_separator = texts.context_separator;
   zero_names = is_set f (codes "null");
   initial_tab = is_set f (codes "initial-tab");
   trim = is_set f (codes "trim");
   most_bytes = most_bytes_by (number_given f (codes "max-columns"));
+  preview = is_set f (codes "max-columns-preview");
   width = 0;
   groups = groups;
   replacement = replacement;
 }
 
 -- -S, -R, -s, --stats, and what is above
-abbrev pub asked_of : Found → Bool → GroupSeparator → Option (Bor (List ℕ)) → Asked
-asked_of f is_colorful groups replacement = record {
+abbrev pub asked_of : Found → Bool → Texts → GroupSeparator → Option (Bor (List ℕ)) → Asked
+asked_of f is_colorful texts groups replacement = record {
   how = how_of f;
   smart_case = is_set f (codes "smart-case");
-  what = what_of f is_colorful groups replacement;
+  what = what_of f is_colorful texts groups replacement;
   binary = binary_by (first_value f (codes "binary-files")) (is_set f (codes "skip-binary"));
   names = asked_names f;
   directories = directories_by (first_value f (codes "directories"))
@@ -157,6 +173,7 @@ asked_of f is_colorful groups replacement = record {
   stats = is_set f (codes "stats");
   reports_input = is_set f (codes "report-input");
   heading = has_heading f;
+  path_separator = texts.path_separator;
 }
 
 -- What is asked for, if these patterns are searched for: with -S they decide about the case of letters.

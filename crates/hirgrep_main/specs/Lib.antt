@@ -3,8 +3,11 @@ pub mod Binaries
 pub mod Decisions
 pub mod FileTypes
 pub mod Given
+pub mod GrepColors
+pub mod Ignores
 pub mod Outcomes
 pub mod Selecting
 pub mod SmartCase
 pub mod Tasks
+pub mod Texts
 pub mod Walking

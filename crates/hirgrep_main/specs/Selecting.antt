@@ -1,17 +1,21 @@
 -- Which files the options choose.
-use Rattle.std.specs.Prelude.{◌≡◌, ℕ, ◌+◌, ◌==◌, Bool, true, false, ◌&&◌, ◌||◌, not, nat_lt, List, [], ◌∷◌, ◌++◌, codes, drop, map, is_none, Option, Some, None, if◌then◌else◌}
+use Rattle.std.specs.Prelude.{◌≡◌, ℕ, ◌+◌, ◌==◌, Bool, true, false, ◌&&◌, ◌||◌, not, nat_lt, List, [], ◌∷◌, ◌++◌, codes, drop, length, map, nat_eq, is_none, Option, Some, None, if◌then◌else◌}
 use Rattle.std.specs.List.{flat_map, list_all, list_any, slice_split}
+use Rattle.std.specs.Cmp.Lexicographic.{pointwise}
 use Rattle.std.specs.Str.{chars}
 use Rattle.clap.specs.Words.{first_value}
 use Rattle.clap.specs.declared.parser.matches.Found.{Found}
 use Rattle.globs.specs.Matching.{is_slash}
 use Rattle.globs.specs.Paths.{file_name, kept_len, without_dot}
-use Rattle.globs.specs.Rules.{Rule, chooses, excluded, folder_rule, glob_fault, glob_rule, grep_rule, rule_of, skips}
+use Rattle.globs.specs.Ignoring.{ignore_rules, or_else}
+use Rattle.globs.specs.Rules.{Rule, chooses, decided, excluded, folder_rule, glob_fault, glob_rule, grep_rule, rule_of, skips}
 use Rattle.grep_options.specs.FileOptions.{Given, file_values}
 use Rattle.grep_options.specs.Options.{is_set, is_text, number_given, values_given}
 use Rattle.grep_options.specs.declared.files.FileOption.{FileOption}
 use Rattle.grep_options.specs.declared.files.FileOption.TheVariants.{Include, Exclude, ExcludeFrom}
 use Rattle.hirgrep_main.specs.FileTypes.{TypeRow, is_type, of_type, type_rules}
+use Rattle.hirgrep_main.specs.Ignores.{ignoring_given}
+use Rattle.hirgrep_main.specs.declared.selecting_files.Ignoring.{Ignoring}
 use Rattle.hirgrep_main.specs.declared.selecting_files.Selection.{Selection as TheSelection}
 
 -- ---- the rules that options give
@@ -44,12 +48,25 @@ names_rules ExcludeFrom = true
 abbrev pub folder_rules : List (List ℕ) → List Rule
 folder_rules texts = map (λ text. folder_rule (chars text)) texts
 
--- Whether the globs have no fault, and their rules.
-abbrev pub are_sound : List (List ℕ) → Bool
-are_sound texts = list_all (λ text. is_none (glob_fault (chars text))) texts
+-- Whether the globs have no fault, and their rules. `folds`: letters match in either case.
+abbrev pub are_sound : Bool → List (List ℕ) → Bool
+are_sound folds texts = list_all (λ text. is_none (glob_fault folds (chars text))) texts
 
-abbrev pub glob_rules : List (List ℕ) → List Rule
-glob_rules texts = map (λ text. glob_rule (chars text)) texts
+abbrev pub glob_rules : Bool → List (List ℕ) → List Rule
+glob_rules folds texts = map (λ text. glob_rule folds (chars text)) texts
+
+-- The globs of --glob come before those of --iglob.
+abbrev pub gives_globs : Found → Bool
+gives_globs f =
+    are_sound (is_set f (codes "glob-case-insensitive")) (values_given f (codes "glob")) && are_sound true (values_given f (codes "iglob"))
+
+abbrev pub globs_given : Found → List Rule
+globs_given f =
+    glob_rules (is_set f (codes "glob-case-insensitive")) (values_given f (codes "glob")) ++ glob_rules true (values_given f (codes "iglob"))
+
+-- The rules of the files of --ignore-file, with a content for each.
+abbrev pub AreIgnored : List Rule → List Rule → ℕ → Type 0
+AreIgnored old new files = (contents : List (List ℕ)) × ((length contents ≡ files) × (new ≡ old ++ flat_map ignore_rules contents))
 
 -- Whether there are types of these names, and their rules, which select files or leave them out.
 abbrev pub are_types : List TypeRow → List (List ℕ) → Bool
@@ -72,10 +89,14 @@ pub record Selection : Type 0 where
   pub files : List Rule
   -- the rules of --exclude-dir
   pub folders : List Rule
-  -- the rules of --glob
+  -- the rules of --glob and --iglob
   pub globs : List Rule
   -- the rules of --type and --type-not
   pub types : List Rule
+  -- the rules of --ignore-file
+  pub ignored : List Rule
+  -- which ignore files of folders are read
+  pub ignoring : Ignoring
   -- how deep folders are searched
   pub max_depth : Option ℕ
   -- names are printed, and nothing is searched
@@ -89,6 +110,8 @@ selection s = record {
   folders = map rule_of s.folders.items;
   globs = map rule_of s.globs.items;
   types = map rule_of s.types.items;
+  ignored = map rule_of s.ignored.items;
+  ignoring = s.ignoring;
   max_depth = s.max_depth;
   lists = s.lists;
   sorts = s.sorts;
@@ -101,6 +124,8 @@ selection_without_rules f = record {
   folders = [];
   globs = [];
   types = [];
+  ignored = [];
+  ignoring = ignoring_given f;
   max_depth = number_given f (codes "max-depth");
   lists = is_set f (codes "files");
   sorts = is_text (codes "path") (first_value f (codes "sort"));
@@ -119,22 +144,34 @@ with_globs s rules = record s { globs = s.globs ++ rules }
 abbrev pub with_types : Selection → List Rule → Selection
 with_types s rules = record s { types = s.types ++ rules }
 
--- With the rules that options give. `contents` has a content for each value of --include, --exclude and --exclude-from.
+abbrev pub with_ignored : Selection → List Rule → Selection
+with_ignored s rules = record s { ignored = s.ignored ++ rules }
+
+-- With the rules that options give, but for those of --ignore-file. `contents` has a content for each value of --include, --exclude and
+-- --exclude-from.
 abbrev pub with_rules : Selection → Found → List TypeRow → List (List ℕ) → Selection
 with_rules s f rows contents =
     with_types
     (with_globs (with_folders (with_files s (values_rules (file_values f) contents)) (folder_rules (values_given f (codes "exclude-dir"))))
-    (glob_rules (values_given f (codes "glob"))))
+    (globs_given f))
     (types_given f rows)
 
 -- What the options choose.
 abbrev pub selection_given : Found → List TypeRow → List (List ℕ) → Selection
 selection_given f rows contents = with_rules (selection_without_rules f) f rows contents
 
--- No file of rules is named, each glob can be read and each type is known: then the options choose files whatever the system does.
+-- What they choose with the rules of the files of --ignore-file, each of which has a content.
+abbrev pub ignore_files : Found → List (List ℕ)
+ignore_files f = values_given f (codes "ignore-file")
+
+abbrev pub IsGiven : Found → List TypeRow → Selection → Type 0
+IsGiven f rows s = (contents : List (List ℕ)) × ((ignored : List Rule) × (AreIgnored [] ignored (length (ignore_files f))
+    × (s ≡ with_ignored (selection_given f rows contents) ignored)))
+
+-- No file of rules is named but by --ignore-file, each glob can be read and each type is known: then the options choose files whatever the system does.
 abbrev pub is_sure : Found → List TypeRow → Bool
 is_sure f rows =
-    not (list_any (λ (v : Given). names_rules v.option) (file_values f)) && (are_sound (values_given f (codes "glob")) && gives_types f rows)
+    not (list_any (λ (v : Given). names_rules v.option) (file_values f)) && (gives_globs f && gives_types f rows)
 
 -- ---- what is left out
 
@@ -149,17 +186,44 @@ skips_named s is_folder name = skips (rules_for s is_folder) true (chars name)
 abbrev pub skips_entry : Selection → Bool → List ℕ → Bool
 skips_entry s is_folder path = skips (rules_for s is_folder) false (file_name (chars path))
 
--- The rules of --glob leave out what has this path.
-abbrev pub skips_path : Selection → Bool → List ℕ → Bool
-skips_path s is_folder path = not (chooses s.globs is_folder (without_dot (chars path)))
+-- What the rules of --glob say of a path: whether it is searched, if one matches or if one chooses files.
+abbrev pub chosen_by : Option Bool → List Rule → Bool → Option Bool
+chosen_by (Some selects) rules is_folder = Some selects
+chosen_by None rules is_folder = if list_any (λ (r : Rule). r.selects) rules && not is_folder then Some false else None
+
+abbrev pub globs_say : Selection → Bool → List ℕ → Option Bool
+globs_say s is_folder path = chosen_by (decided None s.globs is_folder false (without_dot (chars path))) s.globs is_folder
 
 -- The types of files leave out what has this path, by its name. They don't leave out folders.
 abbrev pub skips_type : Selection → Bool → List ℕ → Bool
 skips_type s is_folder path = not is_folder && not (chooses s.types false (file_name (chars path)))
 
+-- Where git's ignore files are read, git's own folder is left out.
+abbrev pub is_git_folder : Selection → List ℕ → Bool
+is_git_folder s path = (s.ignoring.reads && s.ignoring.git) && pointwise nat_eq (file_name (chars path)) (codes ".git")
+
+-- Whether a rule of ignore files says that something is to be ignored.
+abbrev pub is_ignoring : Option Bool → Bool
+is_ignoring None = false
+is_ignoring (Some is) = is
+
+-- What is at this path is to be ignored. `said` is what the ignore files of folders say of it, which count before those of --ignore-file.
+abbrev pub skips_ignored : Selection → Option Bool → Bool → List ℕ → Bool
+skips_ignored s said is_folder path =
+    is_git_folder s path || is_ignoring (or_else said (decided None s.ignored is_folder false (without_dot (chars path))))
+
+-- What is at this path is left out by ignore files or by types. This counts only if the globs say nothing.
+abbrev pub skips_unnamed : Selection → Option Bool → Bool → List ℕ → Bool
+skips_unnamed s said is_folder path = skips_ignored s said is_folder path || skips_type s is_folder path
+
+abbrev pub skips_by_globs : Option Bool → Bool → Bool
+skips_by_globs (Some chosen) other = not chosen
+skips_by_globs None other = other
+
 -- What is at this path, which was found in a folder, is left out.
-abbrev pub skips_found : Selection → Bool → List ℕ → Bool
-skips_found s is_folder path = skips_entry s is_folder path || (skips_path s is_folder path || skips_type s is_folder path)
+abbrev pub skips_found : Selection → Option Bool → Bool → List ℕ → Bool
+skips_found s said is_folder path =
+    skips_entry s is_folder path || skips_by_globs (globs_say s is_folder path) (skips_unnamed s said is_folder path)
 
 -- ---- how deep folders are searched
 

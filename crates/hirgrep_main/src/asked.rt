@@ -3,12 +3,12 @@ ghost use Rattle.std.specs.Prelude.{◌≡◌, ◌||◌, codes, if◌then◌else
 ghost use Rattle.clap.specs.Words.{first_value, found_of};
 ghost use Rattle.grep_core.specs.Printing.{group_text};
 ghost use Rattle.grep_options.specs.Options.{is_set};
-ghost use Rattle.hirgrep_main.specs.Asks.{all_lines, asked_names, asked_of, color_of, context_by, context_of, devices_by, directories_by, how_of};
-ghost use Rattle.hirgrep_main.specs.Asks.{group_given, has_columns, has_heading, most_bytes_by, print_of, template_given, what_of};
+ghost use Rattle.hirgrep_main.specs.Asks.{all_lines, asked_names, asked_of, color_of, colors_of, context_by, context_of, devices_by, directories_by, how_of};
+ghost use Rattle.hirgrep_main.specs.Asks.{group_given, has_columns, has_heading, has_numbers, most_bytes_by, print_of, template_given, what_of};
 
 use crate::binary::{Binary, binary_of};
 use clap::ArgMatches;
-use grep_core::{Context, GroupSeparator, OutputOptions, PatternOptions, Print};
+use grep_core::{Colors, Context, GroupSeparator, OutputOptions, PatternOptions, Print};
 use grep_options::{is_set, limit, number};
 use std::env;
 use std::io::IsTerminal;
@@ -16,6 +16,19 @@ use std::rt::Runtime;
 
 /// More lines than an input has.
 const ALL: u64 = 0xFFFF_FFFF_FFFF_FFFF;
+
+/// What is borrowed besides the command line.
+#[derive(Clone, Copy)]
+pub struct Texts<'a> {
+    /// The colours, if parts are marked.
+    pub colors: Colors<'a>,
+    /// The separator after each field before a selected line, if it is given.
+    pub match_separator: Option<&'a [u8]>,
+    /// The separator after each field before a context line, if it is given.
+    pub context_separator: Option<&'a [u8]>,
+    /// The text that is printed instead of each slash in names, if it is given.
+    pub path_separator: Option<&'a str>,
+}
 
 /// Whether file names are printed before lines.
 #[derive(Clone, Copy, PartialEq, Eq)]
@@ -66,6 +79,8 @@ pub struct Asked<'a> {
     pub reports_input: bool,
     /// Prints the name of a file once above its lines.
     pub heading: bool,
+    /// The text that is printed instead of each slash in names, if it is given.
+    pub path_separator: Option<&'a str>,
 }
 
 /// How patterns are interpreted.
@@ -143,7 +158,7 @@ fn all_lines() -> Option<Context>
     })
 }
 
-/// The context lines: `-B` and `-A` take precedence over `-C`, and `--passthru` over all of them.
+/// The context lines: `-B` and `-A` take precedence over `-C`. They and `--passthru` have turned off each other.
 fn context_of(matches: &ArgMatches<'_>) -> Option<Context>
     ensures { result ≡ context_of (found_of matches.now) }
 {
@@ -166,12 +181,12 @@ pub fn is_colorful(rt: &HostRuntime) -> bool {
 
 /// Whether matches and names are marked, by `--color` or, without it, by `-p` if `--vimgrep` isn't given. `is_colorful` says whether
 /// standard output is a terminal that supports colours.
-fn color_of(matches: &ArgMatches<'_>, is_colorful: bool) -> bool
+pub fn color_of(matches: &ArgMatches<'_>, is_colorful: bool) -> bool
     ensures { result ≡ color_of (found_of matches.now) is_colorful }
 {
     match matches.get_str("color") {
-        Some("always") => true,
-        Some("auto") => is_colorful,
+        Some("always" | "yes" | "force") => true,
+        Some("auto" | "tty" | "if-tty") => is_colorful,
         Some(_) => false,
         None => is_set(matches, "pretty") && !is_set(matches, "vimgrep"),
     }
@@ -243,7 +258,7 @@ pub fn input_name<'a>(matches: &ArgMatches<'a>) -> &'a str
 }
 
 /// What separates groups of lines. Of the two options, the later one has turned off the other. With `--passthru` there are no groups.
-fn groups_of<'a>(matches: &ArgMatches<'a>) -> GroupSeparator<'a>
+pub fn groups_of<'a>(matches: &ArgMatches<'a>) -> GroupSeparator<'a>
     ensures { group_text result ≡ group_given (found_of matches.now) }
 {
     if is_set(matches, "no-group-separator") || is_set(matches, "passthru") {
@@ -256,7 +271,7 @@ fn groups_of<'a>(matches: &ArgMatches<'a>) -> GroupSeparator<'a>
 }
 
 /// The template by which matches are replaced, if it is given.
-fn template_of<'a>(matches: &ArgMatches<'a>) -> Option<&'a [u8]>
+pub fn template_of<'a>(matches: &ArgMatches<'a>) -> Option<&'a [u8]>
     ensures { option_map (λ t. t.now) result ≡ template_given (found_of matches.now) }
 {
     match matches.get_str("replace") {
@@ -265,11 +280,42 @@ fn template_of<'a>(matches: &ArgMatches<'a>) -> Option<&'a [u8]>
     }
 }
 
-/// Whether columns are printed.
+/// Whether the numbers of lines are printed. Of `-n` and `-N`, the later one has turned off the other.
+fn has_numbers(matches: &ArgMatches<'_>) -> bool
+    ensures { result ≡ has_numbers (found_of matches.now) }
+{
+    if is_set(matches, "no-line-number") {
+        return false;
+    }
+    is_set(matches, "line-number")
+        || is_set(matches, "pretty")
+        || is_set(matches, "column")
+        || is_set(matches, "vimgrep")
+}
+
+/// Whether columns are printed. Of `--column` and `--no-column`, the later one has turned off the other.
 fn has_columns(matches: &ArgMatches<'_>) -> bool
     ensures { result ≡ has_columns (found_of matches.now) }
 {
+    if is_set(matches, "no-column") {
+        return false;
+    }
     is_set(matches, "column") || is_set(matches, "vimgrep")
+}
+
+/// The colours, if parts are marked.
+fn colors_of<'a>(
+    matches: &ArgMatches<'_>,
+    is_colorful: bool,
+    colors: Colors<'a>,
+) -> Option<Colors<'a>>
+    ensures { result ≡ colors_of (found_of matches.now) is_colorful colors.entry }
+{
+    if color_of(matches, is_colorful) {
+        Some(colors)
+    } else {
+        None
+    }
 }
 
 /// The greatest number of bytes of a line that is printed, if this number is given. 0 is no limit.
@@ -283,43 +329,52 @@ fn most_bytes_by(given: Option<u64>) -> Option<u64>
 }
 
 /// What is printed for each input. The width of numbers depends on the input, and is 0 here.
-fn what_of<'a>(matches: &ArgMatches<'a>, is_colorful: bool) -> OutputOptions<'a>
-    ensures options { result ≡ what_of (found_of matches.now) is_colorful result.groups result.replacement }
-    ensures groups { group_text result.groups ≡ group_given (found_of matches.now) }
-    ensures replacement { option_map (λ t. t.now) result.replacement ≡ template_given (found_of matches.now) }
+fn what_of<'a>(
+    matches: &ArgMatches<'_>,
+    is_colorful: bool,
+    texts: Texts<'a>,
+    groups: GroupSeparator<'a>,
+    replacement: Option<&'a [u8]>,
+) -> OutputOptions<'a>
+    ensures { result ≡ what_of (found_of matches.now) is_colorful texts.entry groups.entry replacement.entry }
 {
     OutputOptions {
         invert: is_set(matches, "invert-match"),
         print: print_of(matches),
-        numbers: is_set(matches, "line-number")
-            || is_set(matches, "pretty")
-            || has_columns(matches),
+        numbers: has_numbers(matches),
         columns: has_columns(matches),
         each_match: is_set(matches, "vimgrep"),
         offsets: is_set(matches, "byte-offset"),
         context: context_of(matches),
         most: limit(matches, "max-count"),
-        color: color_of(matches, is_colorful),
+        color: colors_of(matches, is_colorful, texts.colors),
+        match_separator: texts.match_separator,
+        context_separator: texts.context_separator,
         zero_names: is_set(matches, "null"),
         initial_tab: is_set(matches, "initial-tab"),
         trim: is_set(matches, "trim"),
         most_bytes: most_bytes_by(number(matches, "max-columns")),
+        preview: is_set(matches, "max-columns-preview"),
         width: 0,
-        groups: groups_of(matches),
-        replacement: template_of(matches),
+        groups,
+        replacement,
     }
 }
 
 /// What the options ask for. `is_colorful` says whether standard output is a terminal that supports colours.
-pub fn asked_of<'a>(matches: &ArgMatches<'a>, is_colorful: bool) -> Asked<'a>
-    ensures options { result ≡ asked_of (found_of matches.now) is_colorful result.what.groups result.what.replacement }
-    ensures groups { group_text result.what.groups ≡ group_given (found_of matches.now) }
-    ensures replacement { option_map (λ t. t.now) result.what.replacement ≡ template_given (found_of matches.now) }
+pub fn asked_of<'a>(
+    matches: &ArgMatches<'_>,
+    is_colorful: bool,
+    texts: Texts<'a>,
+    groups: GroupSeparator<'a>,
+    replacement: Option<&'a [u8]>,
+) -> Asked<'a>
+    ensures { result ≡ asked_of (found_of matches.now) is_colorful texts.entry groups.entry replacement.entry }
 {
     Asked {
         how: how_of(matches),
         smart_case: is_set(matches, "smart-case"),
-        what: what_of(matches, is_colorful),
+        what: what_of(matches, is_colorful, texts, groups, replacement),
         binary: binary_of(matches),
         names: names_of(matches),
         directories: directories_of(matches),
@@ -329,5 +384,6 @@ pub fn asked_of<'a>(matches: &ArgMatches<'a>, is_colorful: bool) -> Asked<'a>
         stats: is_set(matches, "stats"),
         reports_input: is_set(matches, "report-input"),
         heading: has_heading(matches),
+        path_separator: texts.path_separator,
     }
 }

@@ -14,6 +14,8 @@ mod columns;
 mod counting;
 mod file_types;
 mod first_bytes;
+mod grep_colors;
+mod ignoring;
 mod input;
 mod input_report;
 mod loops;
@@ -28,16 +30,20 @@ mod selecting_files;
 mod shown;
 mod smart_case;
 mod task;
+mod texts;
 mod walking;
 
 use crate::arguments::{arguments_of, report_usage};
-use crate::asked::{Asked, Directories, asked_of, input_name, is_colorful};
+use crate::asked::{
+    Asked, Directories, asked_of, color_of, groups_of, input_name, is_colorful, template_of,
+};
 use crate::file_types::{TYPES, list_of_types};
 use crate::messages::{report_error, report_output};
 use crate::outcome::Outcome;
 use crate::patterns::{gives_patterns, lines_of, patterns_of};
 use crate::searching::{Files, search};
 use crate::selecting_files::{Selection, selection_of};
+use crate::texts::GivenTexts;
 use clap::ArgMatches;
 use grep_options::{command, is_set, with_numbers};
 use std::alloc::AllocError;
@@ -149,6 +155,25 @@ fn print_types(rt: &HostRuntime) -> Result<u8, AllocError> {
     }
 }
 
+/// Runs the search that the options ask for, with these texts, and returns the exit status.
+fn run_with<'a>(
+    rt: &HostRuntime,
+    matches: &'a ArgMatches<'_>,
+    is_colorful: bool,
+    given: &'a GivenTexts,
+) -> Result<u8, AllocError> {
+    let texts = given.texts(matches.get_str("path-separator"));
+    let asked = asked_of(
+        matches,
+        is_colorful,
+        texts,
+        groups_of(matches),
+        template_of(matches),
+    );
+    let outcome = run_asked(rt, &asked, matches)?;
+    Ok(outcome.status(&asked))
+}
+
 /// Runs what the command line asks for, and returns the exit status. Basic regular expressions are an error.
 fn run_matches(rt: &HostRuntime, matches: &ArgMatches<'_>) -> Result<u8, AllocError>
     ensures { is_set (found_of matches.now) (codes "basic-regexp") ≡ true → IfOk result (λ status. status ≡ 2) }
@@ -162,9 +187,10 @@ fn run_matches(rt: &HostRuntime, matches: &ArgMatches<'_>) -> Result<u8, AllocEr
     if is_set(matches, "type-list") {
         return print_types(rt);
     }
-    let asked = asked_of(matches, is_colorful(rt));
-    let outcome = run_asked(rt, &asked, matches)?;
-    Ok(outcome.status(&asked))
+    let is_colorful = is_colorful(rt);
+    let given = GivenTexts::new(rt, matches, color_of(matches, is_colorful))?;
+    given.report_old_colors(rt);
+    run_with(rt, matches, is_colorful, &given)
 }
 
 fn run(rt: &HostRuntime) -> Result<u8, AllocError> {

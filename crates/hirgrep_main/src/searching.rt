@@ -19,6 +19,7 @@ use crate::asked::{Asked, Devices, Directories, Names};
 use crate::binary::prints_lines;
 use crate::columns::width_at;
 use crate::counting::Counting;
+use crate::ignoring::IgnoreFiles;
 use crate::input::input;
 use crate::input_report::report_one;
 use crate::messages::{Causes, report_no_finder};
@@ -27,6 +28,7 @@ use crate::output::Output;
 use crate::selecting_files::Selection;
 use crate::smart_case::ignores_case;
 use crate::task::{Task, shown_name};
+use crate::texts::separated_name;
 use crate::walking::{Kind, is_output, kind_of, output_file, push_folder, push_found};
 use grep_core::{
     Fault, Finder, Headed, LinePatterns, OutputOptions, PatternOptions, Print, SearcherError,
@@ -259,6 +261,29 @@ fn list_file(rt: &HostRuntime, task: Task<'_>, outcome: &mut Outcome, name: &str
     );
 }
 
+/// Searches a file under this name, or prints the name.
+fn search_under(
+    rt: &HostRuntime,
+    finder: &mut Finder<'_>,
+    task: Task<'_>,
+    outcome: &mut Outcome,
+    name: &str,
+    path: &str,
+)
+    ensures tried { Tries outcome.old outcome.new }
+    ensures continues { Continues outcome.old outcome.new }
+{
+    if task.selection.lists {
+        list_file(rt, task, outcome, name);
+        return;
+    }
+    if is_refused_output(rt, task, outcome, name, path) {
+        return;
+    }
+    let width = width_at(rt, &task.asked.what, path);
+    search_aligned(rt, finder, task, outcome, name, width, fs::open(rt, path));
+}
+
 /// Searches a file, or prints its name.
 fn search_file(
     rt: &HostRuntime,
@@ -271,15 +296,13 @@ fn search_file(
     ensures continues { Continues outcome.old outcome.new }
 {
     let name = shown_name(task, path);
-    if task.selection.lists {
-        list_file(rt, task, outcome, name);
-        return;
+    let Some(separator) = task.asked.path_separator else {
+        return search_under(rt, finder, task, outcome, name, path);
+    };
+    match separated_name(rt.alloc(), separator, name) {
+        Ok(name) => search_under(rt, finder, task, outcome, name.as_str(), path),
+        Err(_) => outcome.fail_with(rt, task.asked, path, "out of memory"),
     }
-    if is_refused_output(rt, task, outcome, name, path) {
-        return;
-    }
-    let width = width_at(rt, &task.asked.what, path);
-    search_aligned(rt, finder, task, outcome, name, width, fs::open(rt, path));
 }
 
 /// Whether devices that are found in folders are read.
@@ -373,7 +396,7 @@ fn is_folder(kind: &io::Result<Kind>) -> bool
     }
 }
 
-/// Searches something of this kind that was found in a folder, unless the options leave it out.
+/// Searches something of this kind that was found in a folder, unless the options leave it out. The ignore files of folders said this of it.
 fn search_unless_skipped(
     rt: &HostRuntime,
     finder: &mut Finder<'_>,
@@ -382,18 +405,22 @@ fn search_unless_skipped(
     left: &mut Vec<String>,
     root: &str,
     path: &str,
+    said: Option<bool>,
     kind: io::Result<Kind>,
 ) -> Result<(), AllocError>
-    ensures skipped { skips_found (selection task.entry.selection.now) (is_folder kind) path.now ≡ true
+    ensures skipped { skips_found (selection task.entry.selection.now) said (is_folder kind) path.now ≡ true
         → (outcome.new ≡ outcome.old) × (left.new ≡ left.old) }
-    ensures file { skips_found (selection task.entry.selection.now) (is_folder kind) path.now ≡ false
+    ensures file { skips_found (selection task.entry.selection.now) said (is_folder kind) path.now ≡ false
         → kind ≡ Ok FoundFile → OnOk result (Tries outcome.old outcome.new) }
-    ensures unread { skips_found (selection task.entry.selection.now) (is_folder kind) path.now ≡ false
+    ensures unread { skips_found (selection task.entry.selection.now) said (is_folder kind) path.now ≡ false
         → IfErr kind (λ _. OnOk result (outcome.new ≡ with_failure outcome.old)) }
     ensures continues { Continues outcome.old outcome.new }
 {
     let is_folder = is_folder(&kind);
-    if task.selection.skips_found(rt.alloc(), is_folder, path)? {
+    if task
+        .selection
+        .skips_found(rt.alloc(), said, is_folder, path)?
+    {
         return Ok(());
     }
     search_kind(rt, finder, task, outcome, left, root, path, kind)
@@ -406,13 +433,15 @@ fn search_found(
     task: Task<'_>,
     outcome: &mut Outcome,
     left: &mut Vec<String>,
+    ignoring: &mut IgnoreFiles,
     root: &str,
     path: &str,
 ) -> Result<(), AllocError>
     ensures { Continues outcome.old outcome.new }
 {
     let kind = kind_of(rt, path, task.asked.follows);
-    search_unless_skipped(rt, finder, task, outcome, left, root, path, kind)
+    let said = ignoring.said(rt, task, outcome, root, path, is_folder(&kind))?;
+    search_unless_skipped(rt, finder, task, outcome, left, root, path, said, kind)
 }
 
 /// Searches the files of a folder, and of the folders in it.
@@ -429,13 +458,23 @@ fn search_folder(
         return Ok(());
     }
     let mut left = Vec::new(rt.alloc());
+    let mut ignoring = IgnoreFiles::new(rt, task, outcome, root)?;
     push_folder(rt, task, outcome, &mut left, root, true)?;
     for _index in 0..u64::MAX {
         let Some(path) = left.pop() else {
             break;
         };
         let path = path.as_str();
-        search_found(rt, finder, task, outcome, &mut left, root, path)?;
+        search_found(
+            rt,
+            finder,
+            task,
+            outcome,
+            &mut left,
+            &mut ignoring,
+            root,
+            path,
+        )?;
         if outcome.ended {
             break;
         }

@@ -1,14 +1,18 @@
 //! Which files are searched, by the options on their names and paths.
-ghost use Rattle.std.specs.Prelude.{◌≡◌, ◌≤◌, ◌++◌, ◌∷◌, [], ℕ, true, false, List, IfErr, IfOk, IfSome, OnOk, codes, is_none, is_some, length, map, string_bytes};
+ghost use Rattle.std.specs.Prelude.{◌≡◌, ◌≤◌, ◌++◌, ◌∷◌, [], ℕ, true, false, List, None, IfErr, IfOk, IfSome, OnOk, codes, is_none, is_some, length, map, nat_eq, string_bytes};
 ghost use Rattle.std.specs.List.{list_any};
 ghost use Rattle.std.specs.Result.{is_ok};
+ghost use Rattle.std.specs.Cmp.Lexicographic.{pointwise};
 ghost use Rattle.std.specs.Str.{chars};
 ghost use Rattle.clap.specs.Words.{first_value, found_of};
-ghost use Rattle.globs.specs.Rules.{excluded, folder_rule, glob_fault, glob_rule, grep_rule, rule_of};
+ghost use Rattle.globs.specs.Ignoring.{ignore_rules};
+ghost use Rattle.globs.specs.Paths.{without_dot};
+ghost use Rattle.globs.specs.Rules.{Rule as AnyRule, decided, excluded, folder_rule, glob_fault, glob_rule, grep_rule, rule_of};
 ghost use Rattle.grep_options.specs.FileOptions.{file_values, given_of};
 ghost use Rattle.grep_options.specs.Options.{is_text, values_given};
-ghost use Rattle.hirgrep_main.specs.Selecting.{are_sound, base_len, depth_in, enters, excluded_lines, folder_rules, glob_rules, is_sure, names_rules, rules_for, selection, selection_given, selection_without_rules, skips_entry};
-ghost use Rattle.hirgrep_main.specs.Selecting.{skips_found, skips_named, skips_path, skips_type, slashes, value_rules, values_rules, with_files, with_folders, with_globs, with_rules, with_types};
+ghost use Rattle.hirgrep_main.specs.Selecting.{AreIgnored, IsGiven, are_sound, base_len, chosen_by, depth_in, enters, excluded_lines, folder_rules, glob_rules, is_sure, names_rules, rules_for, selection, selection_given, selection_without_rules, skips_entry};
+ghost use Rattle.hirgrep_main.specs.Selecting.{gives_globs, globs_given, globs_say, ignore_files, is_ignoring, is_git_folder, skips_found, skips_ignored, skips_named, skips_type, skips_unnamed, slashes, value_rules, values_rules, with_files, with_folders, with_globs, with_ignored, with_rules, with_types};
+ghost use Rattle.hirgrep_main.specs.Ignores.{ignoring_given};
 ghost use Rattle.hirgrep_main.specs.Selecting.{are_types, gives_types, named_types, types_given};
 ghost use Rattle.hirgrep_main.specs.FileTypes.{is_type, of_type, rows_of, type_rules};
 
@@ -19,12 +23,27 @@ use crate::messages::report_error;
 use crate::shown::Shown;
 use clap::ArgMatches;
 use globs::{
-    Fault, FaultKind, Rule, chars_of, chooses, file_name, push_excluded, skips, without_dot,
+    Fault, FaultKind, Rule, any_selects, chars_of, chooses, decides, file_name, push_excluded,
+    push_ignore_rules, skips, without_dot,
 };
 use grep_options::{FileOption, FileValue, file_values, is_set, number};
 use std::alloc::{AllocError, Global};
 use std::rt::Runtime;
 use std::{fs, io};
+
+/// Which ignore files of folders are read.
+#[derive(Clone, Copy, PartialEq, Eq)]
+pub struct Ignoring {
+    pub reads: bool,
+    /// `.ignore` and `.rgignore`.
+    pub plain: bool,
+    /// `.gitignore` and `.git/info/exclude`.
+    pub git: bool,
+    /// Those of the folders above the ones that are searched.
+    pub parents: bool,
+    /// Those of git count in its work trees alone.
+    pub needs_tree: bool,
+}
 
 /// What chooses files.
 #[derive(Drop)]
@@ -33,10 +52,14 @@ pub struct Selection {
     files: Vec<Rule>,
     /// The rules of `--exclude-dir`.
     folders: Vec<Rule>,
-    /// The rules of `--glob`.
+    /// The rules of `--glob` and `--iglob`.
     globs: Vec<Rule>,
     /// The rules of `--type` and `--type-not`.
     types: Vec<Rule>,
+    /// The rules of `--ignore-file`.
+    ignored: Vec<Rule>,
+    /// Which ignore files of folders are read.
+    pub ignoring: Ignoring,
     /// How deep folders are searched.
     max_depth: Option<u64>,
     /// The names of files are printed, and nothing is searched.
@@ -78,6 +101,7 @@ fn push_lines(alloc: Global, rules: &mut Vec<Rule>, text: &str) -> Result<(), Al
     Ok(())
 }
 
+/// The text of a file of rules. A dash is standard input.
 fn read_text(rt: &HostRuntime, asked: &Asked, name: &str) -> io::Result<String> {
     if name == "-" {
         return io::read_to_string(rt.alloc(), input(rt, asked));
@@ -121,6 +145,64 @@ fn push_file(
 {
     let content = read_text(rt, asked, name);
     push_content(rt, rules, name, content)
+}
+
+/// Appends the rules in the content of the file with this name, which is an ignore file. Returns false if it can't be read, after reporting
+/// the error.
+fn push_ignore_content(
+    rt: &HostRuntime,
+    rules: &mut Vec<Rule>,
+    name: &str,
+    content: io::Result<String>,
+) -> Result<bool, AllocError>
+    ensures read { IfOk result (λ read. read ≡ is_ok content) }
+    ensures rules { IfOk content (λ text. OnOk result
+        (map rule_of rules.new.items ≡ map rule_of rules.old.items ++ ignore_rules (string_bytes text))) }
+    ensures unread { IfErr content (λ _. OnOk result (rules.new ≡ rules.old)) }
+{
+    match content {
+        Ok(text) => {
+            push_ignore_rules(rt.alloc(), rules, text.as_str())?;
+            Ok(true)
+        }
+        Err(error) => {
+            report_error(rt, name, &error);
+            Ok(false)
+        }
+    }
+}
+
+/// Appends the rules in an ignore file. Returns false if it can't be read, after reporting the error.
+fn push_ignore_file(
+    rt: &HostRuntime,
+    asked: &Asked,
+    rules: &mut Vec<Rule>,
+    name: &str,
+) -> Result<bool, AllocError>
+    ensures { IfOk result (λ read. read ≡ true → (content : List ℕ)
+        × (map rule_of rules.new.items ≡ map rule_of rules.old.items ++ ignore_rules content)) }
+{
+    let content = read_text(rt, asked, name);
+    push_ignore_content(rt, rules, name, content)
+}
+
+/// Appends the rules in ignore files. Returns false if one can't be read, after reporting the error.
+fn push_ignore_files(
+    rt: &HostRuntime,
+    asked: &Asked,
+    rules: &mut Vec<Rule>,
+    names: &[&str],
+) -> Result<bool, AllocError>
+    ensures rules { IfOk result (λ read. read ≡ true → AreIgnored (map rule_of rules.old.items) (map rule_of rules.new.items)
+        (length (map (λ n. n.now) names.now))) }
+    ensures sure { IfOk result (λ read. length (map (λ n. n.now) names.now) ≡ 0 → read ≡ true) }
+{
+    for name in names {
+        if !push_ignore_file(rt, asked, rules, name)? {
+            return Ok(false);
+        }
+    }
+    Ok(true)
 }
 
 /// Appends the rules of a value. Returns false if it names a file that can't be read, after reporting the error.
@@ -201,14 +283,19 @@ fn report_fault(rt: &HostRuntime, text: &str, fault: Fault) {
     let _ = eprintln!(rt; "hirgrep: glob {text}: {reason} (character {at} of the glob)");
 }
 
-/// Appends the rule of `--glob`. Returns false if the glob has a fault, after reporting it.
-fn push_glob(rt: &HostRuntime, rules: &mut Vec<Rule>, text: &str) -> Result<bool, AllocError>
-    ensures sound { IfOk result (λ sound. sound ≡ is_none (glob_fault (chars text.now))) }
+/// Appends the rule of `--glob`, or of `--iglob` if it folds. Returns false if the glob has a fault, after reporting it.
+fn push_glob(
+    rt: &HostRuntime,
+    rules: &mut Vec<Rule>,
+    folds: bool,
+    text: &str,
+) -> Result<bool, AllocError>
+    ensures sound { IfOk result (λ sound. sound ≡ is_none (glob_fault folds (chars text.now))) }
     ensures rule { IfOk result (λ sound. sound ≡ true
-        → map rule_of rules.new.items ≡ map rule_of rules.old.items ++ glob_rule (chars text.now) ∷ []) }
+        → map rule_of rules.new.items ≡ map rule_of rules.old.items ++ glob_rule folds (chars text.now) ∷ []) }
 {
     let chars = chars_of(rt.alloc(), text)?;
-    match Rule::of_glob(rt.alloc(), &chars)? {
+    match Rule::of_glob(rt.alloc(), folds, &chars)? {
         Ok(rule) => {
             rules.push(rule)?;
             Ok(true)
@@ -220,14 +307,19 @@ fn push_glob(rt: &HostRuntime, rules: &mut Vec<Rule>, text: &str) -> Result<bool
     }
 }
 
-/// Appends the rules of `--glob`. Returns false if a glob has a fault, after reporting it.
-fn push_globs(rt: &HostRuntime, rules: &mut Vec<Rule>, texts: &[&str]) -> Result<bool, AllocError>
-    ensures sound { IfOk result (λ sound. sound ≡ are_sound (map (λ t. t.now) texts.now)) }
+/// Appends the rules of `--glob`, or of `--iglob` if they fold. Returns false if a glob has a fault, after reporting it.
+fn push_globs(
+    rt: &HostRuntime,
+    rules: &mut Vec<Rule>,
+    folds: bool,
+    texts: &[&str],
+) -> Result<bool, AllocError>
+    ensures sound { IfOk result (λ sound. sound ≡ are_sound folds (map (λ t. t.now) texts.now)) }
     ensures rules { IfOk result (λ sound. sound ≡ true
-        → map rule_of rules.new.items ≡ map rule_of rules.old.items ++ glob_rules (map (λ t. t.now) texts.now)) }
+        → map rule_of rules.new.items ≡ map rule_of rules.old.items ++ glob_rules folds (map (λ t. t.now) texts.now)) }
 {
     for text in texts {
-        if !push_glob(rt, rules, text)? {
+        if !push_glob(rt, rules, folds, text)? {
             return Ok(false);
         }
     }
@@ -285,6 +377,19 @@ fn sorts(matches: &ArgMatches<'_>) -> bool
     }
 }
 
+/// Which ignore files of folders are read.
+fn ignoring_of(matches: &ArgMatches<'_>) -> Ignoring
+    ensures { result ≡ ignoring_given (found_of matches.now) }
+{
+    Ignoring {
+        reads: is_set(matches, "ignore"),
+        plain: !is_set(matches, "no-ignore-dot"),
+        git: !is_set(matches, "no-ignore-vcs"),
+        parents: !is_set(matches, "no-ignore-parent"),
+        needs_tree: !is_set(matches, "no-require-git"),
+    }
+}
+
 impl Selection {
     /// What the options choose that have no rules.
     fn new(alloc: Global, matches: &ArgMatches<'_>) -> Selection
@@ -295,6 +400,8 @@ impl Selection {
             folders: Vec::new(alloc),
             globs: Vec::new(alloc),
             types: Vec::new(alloc),
+            ignored: Vec::new(alloc),
+            ignoring: ignoring_of(matches),
             max_depth: number(matches, "max-depth"),
             lists: is_set(matches, "files"),
             sorts: sorts(matches),
@@ -325,14 +432,35 @@ impl Selection {
         push_folders(alloc, &mut self.folders, texts)
     }
 
-    /// Adds the rules of `--glob`. Returns false after reporting an error.
+    /// Adds the rules of `--glob` and `--iglob`. Returns false after reporting an error.
     fn add_globs(&mut self, rt: &HostRuntime, matches: &ArgMatches<'_>) -> Result<bool, AllocError>
-        ensures sound { IfOk result (λ sound. sound ≡ are_sound (values_given (found_of matches.now) (codes "glob"))) }
+        ensures sound { IfOk result (λ sound. sound ≡ gives_globs (found_of matches.now)) }
         ensures rules { IfOk result (λ sound. sound ≡ true → selection self.new
-            ≡ with_globs (selection self.old) (glob_rules (values_given (found_of matches.now) (codes "glob")))) }
+            ≡ with_globs (selection self.old) (globs_given (found_of matches.now))) }
     {
+        let folds = is_set(matches, "glob-case-insensitive");
         let texts = matches.get_strs("glob").unwrap_or(&[]);
-        push_globs(rt, &mut self.globs, texts)
+        if !push_globs(rt, &mut self.globs, folds, texts)? {
+            return Ok(false);
+        }
+        let texts = matches.get_strs("iglob").unwrap_or(&[]);
+        push_globs(rt, &mut self.globs, true, texts)
+    }
+
+    /// Adds the rules of `--ignore-file`. Returns false after reporting an error.
+    fn add_ignored(
+        &mut self,
+        rt: &HostRuntime,
+        asked: &Asked,
+        matches: &ArgMatches<'_>,
+    ) -> Result<bool, AllocError>
+        ensures rules { IfOk result (λ read. read ≡ true → (ignored : List AnyRule)
+            × (AreIgnored [] ignored (length (ignore_files (found_of matches.now)))
+            × (selection self.new ≡ with_ignored (selection self.old) ignored))) }
+        ensures sure { IfOk result (λ read. length (ignore_files (found_of matches.now)) ≡ 0 → read ≡ true) }
+    {
+        let names = matches.get_strs("ignore-file").unwrap_or(&[]);
+        push_ignore_files(rt, asked, &mut self.ignored, names)
     }
 
     /// Adds the rules of types of files. Returns false after reporting an error.
@@ -415,16 +543,87 @@ impl Selection {
         skips(alloc, rules, false, file_name(&path))
     }
 
-    /// Whether the rules of `--glob` leave out what has this path.
-    fn skips_path(&self, alloc: Global, is_folder: bool, path: &str) -> Result<bool, AllocError>
-        ensures { IfOk result (λ is. is ≡ skips_path (selection self.now) is_folder path.now) }
+    /// What the rules of `--glob` say of a path.
+    fn globs_say(
+        &self,
+        alloc: Global,
+        is_folder: bool,
+        path: &str,
+    ) -> Result<Option<bool>, AllocError>
+        ensures { IfOk result (λ known. known ≡ globs_say (selection self.now) is_folder path.now) }
     {
         if self.globs.is_empty() {
+            return Ok(None);
+        }
+        let path = chars_of(alloc, path)?;
+        let known = decides(alloc, &self.globs, is_folder, without_dot(&path))?;
+        Ok(chosen_by(known, &self.globs, is_folder))
+    }
+
+    /// Whether this is git's own folder, and git's ignore files are read.
+    fn is_git_folder(&self, alloc: Global, path: &str) -> Result<bool, AllocError>
+        ensures { IfOk result (λ is. is ≡ is_git_folder (selection self.now) path.now) }
+    {
+        if !self.ignoring.reads || !self.ignoring.git {
             return Ok(false);
         }
         let path = chars_of(alloc, path)?;
-        let chosen = chooses(alloc, &self.globs, is_folder, without_dot(&path))?;
-        Ok(!chosen)
+        let name = file_name(&path);
+        Ok(is_name(name, &['.', 'g', 'i', 't']))
+    }
+
+    /// What the rules of `--ignore-file` say of a path.
+    fn files_say(
+        &self,
+        alloc: Global,
+        is_folder: bool,
+        path: &str,
+    ) -> Result<Option<bool>, AllocError>
+        ensures { IfOk result (λ known. known ≡ decided None (selection self.now).ignored is_folder false (without_dot (chars path.now))) }
+    {
+        if self.ignored.is_empty() {
+            return Ok(None);
+        }
+        let path = chars_of(alloc, path)?;
+        decides(alloc, &self.ignored, is_folder, without_dot(&path))
+    }
+
+    /// Whether what is at a path is to be ignored, of which the ignore files of folders said this.
+    fn skips_ignored(
+        &self,
+        alloc: Global,
+        said: Option<bool>,
+        is_folder: bool,
+        path: &str,
+    ) -> Result<bool, AllocError>
+        ensures { IfOk result (λ is. is ≡ skips_ignored (selection self.now) said is_folder path.now) }
+    {
+        if self.is_git_folder(alloc, path)? {
+            return Ok(true);
+        }
+        match said {
+            Some(is) => Ok(is),
+            None => {
+                let known = self.files_say(alloc, is_folder, path)?;
+                Ok(is_ignoring(known))
+            }
+        }
+    }
+
+    /// Whether ignore files or types of files leave out what is at a path.
+    fn skips_unnamed(
+        &self,
+        alloc: Global,
+        said: Option<bool>,
+        is_folder: bool,
+        path: &str,
+    ) -> Result<bool, AllocError>
+        ensures { IfOk result (λ is. is ≡ skips_unnamed (selection self.now) said is_folder path.now) }
+    {
+        if self.skips_ignored(alloc, said, is_folder, path)? {
+            return Ok(true);
+        }
+        self.skips_type(alloc, is_folder, path)
     }
 
     /// Whether the types of files leave out what has this path, by its name.
@@ -439,22 +638,26 @@ impl Selection {
         Ok(!chosen)
     }
 
-    /// Whether what is at this path, which was found in a folder, is left out.
+    /// Whether what is at this path, which was found in a folder, is left out. The ignore files of folders said this of it.
     pub fn skips_found(
         &self,
         alloc: Global,
+        said: Option<bool>,
         is_folder: bool,
         path: &str,
     ) -> Result<bool, AllocError>
-        ensures { IfOk result (λ is. is ≡ skips_found (selection self.now) is_folder path.now) }
+        ensures { IfOk result (λ is. is ≡ skips_found (selection self.now) said is_folder path.now) }
     {
         if self.skips_entry(alloc, is_folder, path)? {
             return Ok(true);
         }
-        if self.skips_path(alloc, is_folder, path)? {
-            return Ok(true);
+        match self.globs_say(alloc, is_folder, path)? {
+            Some(chosen) => Ok(!chosen),
+            None => {
+                let is = self.skips_unnamed(alloc, said, is_folder, path)?;
+                Ok(is)
+            }
         }
-        self.skips_type(alloc, is_folder, path)
     }
 
     /// Whether the folder at a path is searched, which is this deep.
@@ -465,6 +668,36 @@ impl Selection {
             Some(most) => (depth as u64) < most,
             None => true,
         }
+    }
+}
+
+fn is_name(name: &[char], known: &[char]) -> bool
+    ensures { result ≡ pointwise nat_eq name.now known.now }
+{
+    name == known
+}
+
+/// What rules that choose files say of a path of which this is known.
+fn chosen_by(known: Option<bool>, rules: &[Rule], is_folder: bool) -> Option<bool>
+    ensures { result ≡ chosen_by known (map rule_of rules.now) is_folder }
+{
+    match known {
+        Some(selects) => Some(selects),
+        None => if any_selects(rules) && !is_folder {
+            Some(false)
+        } else {
+            None
+        },
+    }
+}
+
+/// Whether a rule of ignore files says that something is to be ignored.
+fn is_ignoring(known: Option<bool>) -> bool
+    ensures { result ≡ is_ignoring known }
+{
+    match known {
+        Some(is) => is,
+        None => false,
     }
 }
 
@@ -511,11 +744,16 @@ pub fn selection_of(
     types: &[(&str, &str)],
     matches: &ArgMatches<'_>,
 ) -> Result<Option<Selection>, AllocError>
-    ensures rules { IfOk result (λ o. IfSome o (λ s. (contents : List (List ℕ))
-        × (selection s ≡ selection_given (found_of matches.now) (rows_of types.now) contents))) }
-    ensures sure { IfOk result (λ o. is_sure (found_of matches.now) (rows_of types.now) ≡ true → is_some o ≡ true) }
+    ensures rules { IfOk result (λ o. IfSome o (λ s. IsGiven (found_of matches.now) (rows_of types.now) (selection s))) }
+    ensures sure { IfOk result (λ o. is_sure (found_of matches.now) (rows_of types.now) ≡ true → length (ignore_files (found_of matches.now)) ≡ 0
+        → is_some o ≡ true) }
 {
     let mut selection = Selection::new(rt.alloc(), matches);
-    let is_sound = selection.add_rules(rt, asked, types, matches)?;
-    Ok(if is_sound { Some(selection) } else { None })
+    if !selection.add_rules(rt, asked, types, matches)? {
+        return Ok(None);
+    }
+    if !selection.add_ignored(rt, asked, matches)? {
+        return Ok(None);
+    }
+    Ok(Some(selection))
 }

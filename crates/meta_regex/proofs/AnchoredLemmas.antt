@@ -1,5 +1,5 @@
 -- What a search that may start at one offset alone says of the toolchain's matcher.
-use Rattle.std.proofs.Common.{◌≡◌, ℕ, zero, suc, ◌+◌, ◌-◌, ◌<◌, ◌≤◌, Bool, true, false, List, [], ◌∷◌, length, All, Option, Some, None, option_map}
+use Rattle.std.proofs.Common.{◌≡◌, ℕ, suc, ◌+◌, ◌-◌, ◌<◌, ◌≤◌, Bool, true, false, List, length, All, Option, Some, None, option_map}
 use Rattle.std.proofs.Common.{refl, sym, ap, ◌∙◌, subst, arith, le-leb, nat_le, if◌then◌else◌}
 use Rattle.std.specs.Option.{option_or}
 use Rattle.std.proofs.lemmas.Option.{none-some, same_Some}
@@ -7,14 +7,13 @@ use Rattle.ucd_perl.specs.Perl.{is_word_char}
 use Rattle.regex_hir.specs.Re.{Re, Trace}
 use Rattle.regex_hir.specs.Meaning.{alt_all}
 use Rattle.regex_hir.specs.Find.{Match}
-use Rattle.regex_hir.proofs.FindLemmas.{first_between_here, first_between_next, first_between_past}
+use Rattle.regex_hir.proofs.FindLemmas.{first_between_here, first_between_next}
 use Rattle.regex_hir.proofs.OptionLemmas.{none_of_no_value}
 use Rattle.regex_syntax.specs.declared.Config.{Config}
 use Rattle.search_core.specs.Utf8.{IsValidText}
 use Rattle.look_core.specs.Terminators.{Terminator}
 use Rattle.look_core.specs.Looks.{holds}
 use Rattle.hir_core.specs.Facts.{LoopsRead}
-use Rattle.hir_core.specs.Tree.{Tree}
 use Rattle.search_types.specs.declared.anchored.Anchored.TheVariants.{No, Yes}
 use Rattle.search_types.specs.declared.match_kind.MatchKind.TheVariants.{LeftmostFirst}
 use Rattle.search_types.specs.Found.{Found}
@@ -27,10 +26,9 @@ use Rattle.hirscan.specs.Regexes.{IsSearchOf, query_of}
 use Rattle.pattern_text.specs.SameEnds.{pattern_looks}
 use Rattle.regex_pair.specs.Pairs.{Pair}
 use Rattle.pattern_search.specs.Searches.{found_from, whole_query, whole_search, span_of_match, span_of_found, IsOfFirstPattern}
-use Rattle.pattern_search.specs.Texts.{AreReadAs}
 use Rattle.pattern_search.specs.Written.{FindsWhatIsWritten}
 use Rattle.pattern_search.proofs.ForCallers.{answer_is_loose, finds_what_is_written, same_patterns, tried, found_is}
-use Rattle.meta_regex.specs.Regexes.{AreBuiltOf, HasFoundStart, HasFoundSpan, row_of, span_of_row}
+use Rattle.meta_regex.specs.Regexes.{AreBuiltOf, HasFoundStart, HasFoundSpan, row_of}
 use Rattle.meta_regex.specs.Starts.{HasTriedSpan, IsTried, NoneStartsAt, anchored_search, tried_of}
 use Rattle.meta_regex.proofs.FoundLemmas.{is_search}
 

@@ -2,6 +2,7 @@ mod AnchoredLemmas
 mod BestLemmas
 mod FallbackLemmas
 mod FoundLemmas
+mod FirstByteLemmas
 pub mod ForCallers
 pub mod ListLemmas
 mod LoopLemmas

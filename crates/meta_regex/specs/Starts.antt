@@ -1,4 +1,4 @@
--- Where the matches of patterns may start, by the literals that they begin with or contain.
+-- Where the matches of patterns may start, by the literals or bytes that they begin with, or the literals that they contain.
 use Rattle.std.specs.Prelude.{◌≡◌, ◌<◌, ℕ, ◌+◌, List, length, Option, Some, None, false, ⊤}
 use Rattle.regex_hir.specs.Re.{Re}
 use Rattle.regex_hir.specs.Meaning.{alt_all}
@@ -18,7 +18,8 @@ use Rattle.meta_regex.specs.declared.anchored.Sought.TheVariants.{Found as Found
 use Rattle.meta_regex.specs.declared.anchored.Step.{Step}
 use Rattle.meta_regex.specs.declared.anchored.Step.TheVariants.{Done, Next}
 use Rattle.meta_regex.specs.declared.literal_starts.LiteralStarts.{LiteralStarts}
-use Rattle.meta_regex.specs.declared.literal_starts.LiteralStarts.TheVariants.{Unknown, Begins, InLine}
+use Rattle.meta_regex.specs.declared.literal_starts.LiteralStarts.TheVariants.{Unknown, Begins, InLine, FirstByte}
+use Rattle.meta_regex.specs.FirstBytes.{AreFirstBytes}
 use Rattle.meta_regex.specs.Regexes.{HasFoundStart, HasFoundSpan, row_of}
 use Rattle.meta_regex.specs.Wordless.{MayBeginAt}
 
@@ -32,6 +33,7 @@ abbrev pub DescribesStarts : LiteralStarts → Tree → Type 0
 DescribesStarts Unknown x = ⊤
 DescribesStarts (Begins literals) x = IsBegunBy literals x
 DescribesStarts (InLine literals) x = IsInLine literals x
+DescribesStarts (FirstByte set) x = AreFirstBytes set x
 
 -- and of the matches of these patterns
 pub record AreStartsOf (config : Config) (texts : List (List ℕ)) (starts : LiteralStarts) : Type 0 where

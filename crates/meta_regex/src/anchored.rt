@@ -18,8 +18,15 @@ use hirscan::headline::{
 };
 use search_types::{Anchored, Input, Match};
 
-/// A match that is found by one try saves as much as a search of this many bytes costs.
-const GAIN: usize = 128;
+/// A match that is found by a try at a literal saves as much as a search of this many bytes costs. The literal costs a little more, so tries
+/// at literals pay only if these are some bytes apart.
+const LITERAL_GAIN: usize = 120;
+
+/// A match that is found by a try at a byte saves as much as a search of this many bytes costs.
+const BYTE_GAIN: usize = 64;
+
+/// A try in vain costs as much as a search of so many bytes.
+const FAILED: usize = 64;
 
 /// For each byte that a try read in vain, it costs as much as a search of so many bytes.
 const PRICE: usize = 2;
@@ -75,10 +82,10 @@ fn result_of(found: Option<Match>) -> Tried
     }
 }
 
-/// How many bytes a try saved.
-fn saved_by(tried: &Tried) -> usize {
+/// How many bytes a try saved at a literal, or else at a byte.
+fn saved_by(tried: &Tried, is_literal: bool) -> usize {
     match tried {
-        Tried::Here(_) => GAIN,
+        Tried::Here(_) => { if is_literal { LITERAL_GAIN } else { BYTE_GAIN } }
         _ => 0,
     }
 }
@@ -87,7 +94,7 @@ fn saved_by(tried: &Tried) -> usize {
 fn price_of(tried: &Tried, read: usize) -> usize {
     match tried {
         Tried::Here(_) => 0,
-        _ => read.saturating_mul(PRICE),
+        _ => read.saturating_mul(PRICE).saturating_add(FAILED),
     }
 }
 
@@ -151,14 +158,16 @@ impl Regex {
         let before = cache.pair.forward().search_total_len();
         let tried = self.find_there(&mut cache.pair, haystack, at);
         let after = cache.pair.forward().search_total_len();
-        cache.effort.gain(saved_by(&tried));
+        cache
+            .effort
+            .gain(saved_by(&tried, self.begins_with_literal()));
         cache
             .effort
             .charge(price_of(&tried, after.saturating_sub(before)));
         tried
     }
 
-    /// Tries the next offset at which a match may start by its literals.
+    /// Tries the next offset at which a match may start by its literals or first bytes.
     fn try_next(&self, cache: &mut Cache, haystack: &[u8], at: usize) -> Step
         requires own { IsCacheOf self.now cache.old }
         requires within { at ≤ length haystack.now }
@@ -174,7 +183,7 @@ impl Regex {
         step_of(tried, haystack, start)
     }
 
-    /// Tries the offsets at which a match may start by its literals, as long as that pays.
+    /// Tries the offsets at which a match may start by its literals or first bytes, as long as that pays.
     pub(crate) fn try_starts(&self, cache: &mut Cache, haystack: &[u8], from: usize) -> Sought
         requires own { IsCacheOf self.now cache.old }
         requires within { from ≤ length haystack.now }

@@ -18,9 +18,6 @@ use literal_search::Effort;
 use search_types::MatchKind;
 use std::alloc::{AllocError, Global};
 
-/// How many skipped bytes make up for the search that begins at a literal.
-const CANDIDATE: usize = 128;
-
 /// The caches of a regex's automata, and what its searches made later. It is usable only with the regex for which it was made.
 ///
 /// Other parts are made once a search needs them: the automaton that reports which patterns match, the automata without looks at words,
@@ -85,7 +82,7 @@ impl Regex {
             fallbacks: None,
             wordless: None,
             wordless_overlapping: None,
-            effort: Effort::with_price(CANDIDATE),
+            effort: Effort::with_price(self.candidate_price()),
         })
     }
 

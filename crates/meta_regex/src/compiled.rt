@@ -14,6 +14,12 @@ use search_types::MatchKind;
 use std::alloc::Global;
 use std::marker::Model;
 
+/// How many skipped bytes make up for a search that begins at a literal.
+const CANDIDATE: usize = 128;
+
+/// How many skipped bytes make up for a search that begins at the start of a literal's line.
+const CANDIDATE_LINE: usize = 256;
+
 /// A regex made from patterns. Nothing in it changes, so several callers may search by it, each with a [`Cache`](crate::Cache) of its own.
 ///
 /// Automata search the haystacks. In some haystacks they give up at a byte, for example if `\b` is tried next to a byte that isn't ASCII.
@@ -59,8 +65,8 @@ impl Regex {
             Ok(copies) => copies,
             Err(_) => return Err(NewError::NoMemory),
         };
-        let starts = LiteralStarts::of(alloc, &built.trees);
         let short = all_have_short_loops(&built.trees);
+        let starts = LiteralStarts::of(alloc, &built.trees, short);
         Ok(Regex {
             pair: built.pair,
             texts: copies,
@@ -114,14 +120,42 @@ impl Regex {
         &self.starts
     }
 
-    /// Whether offsets at which a match may start are tried one by one: matches begin with literals, and a try is expected to read few bytes.
+    /// Whether anything is known of where matches start.
+    pub(crate) fn knows_starts(&self) -> bool {
+        match self.starts {
+            LiteralStarts::Unknown => false,
+            LiteralStarts::Begins(_) | LiteralStarts::InLine(_) | LiteralStarts::FirstByte(_) =>
+                true,
+        }
+    }
+
+    /// Whether matches are known to begin with one of some literals.
+    pub(crate) fn begins_with_literal(&self) -> bool {
+        match self.starts {
+            LiteralStarts::Begins(_) => true,
+            LiteralStarts::FirstByte(_) | LiteralStarts::InLine(_) | LiteralStarts::Unknown =>
+                false,
+        }
+    }
+
+    /// How many skipped bytes make up for the search that begins at a literal. Where it begins at the start of a line, it costs more.
+    pub(crate) fn candidate_price(&self) -> usize {
+        match self.starts {
+            LiteralStarts::InLine(_) => CANDIDATE_LINE,
+            LiteralStarts::Begins(_) | LiteralStarts::FirstByte(_) | LiteralStarts::Unknown =>
+                CANDIDATE,
+        }
+    }
+
+    /// Whether offsets at which a match may start are tried one by one: matches begin with literals or common bytes, and a try is expected to
+    /// read few bytes.
     pub(crate) fn tries_starts(&self) -> bool {
         if !self.short {
             return false;
         }
         match self.starts {
-            LiteralStarts::Begins(_) => true,
-            _ => false,
+            LiteralStarts::Begins(_) | LiteralStarts::FirstByte(_) => true,
+            LiteralStarts::InLine(_) | LiteralStarts::Unknown => false,
         }
     }
 }

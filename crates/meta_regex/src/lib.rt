@@ -12,6 +12,7 @@ mod compiled;
 mod errors;
 mod fallback;
 mod find_all;
+mod first_bytes;
 mod found_match;
 mod literal_starts;
 mod matching_patterns;

@@ -1,16 +1,23 @@
-//! Skips the parts of a haystack in which no match starts, by the literals that matches begin with or contain.
+//! Skips the parts of a haystack in which no match starts, by the literals or bytes that matches begin with, or the literals that they
+//! contain.
 ghost use Rattle.std.specs.Prelude.{◌≡◌, ◌-◌, ◌≤◌, ◌<◌, IfSome, Some, length, slice_get};
 ghost use Rattle.hir_core.specs.Tree.{Tree, alternation};
 ghost use Rattle.literal_search.specs.Searches.{IsBegunBy, IsNextStart};
+ghost use Rattle.meta_regex.specs.FirstBytes.{AreFirstBytes};
 ghost use Rattle.meta_regex.specs.Starts.{DescribesStarts, IsInLine};
 
+use crate::first_bytes::{MOST_SCANNED, begins_often, next_of, set_of_first_bytes};
 use hir_core::Hir;
 use line_trees::laws::a_match_that_reads_no_feed_lies_in_one_line;
 use line_trees::reads_feed;
 use literal_search::{CandidateFinder, Effort};
+use search_core::ByteSet;
 use std::alloc::Global;
 
-/// What literals say of where matches start.
+/// What it costs, in skipped bytes, if no match may start within the bytes that are examined one by one.
+const SCARCE: usize = 1024;
+
+/// What literals and first bytes say of where matches start.
 #[derive(Drop)]
 pub(crate) enum LiteralStarts {
     /// No useful literals are known.
@@ -19,6 +26,8 @@ pub(crate) enum LiteralStarts {
     Begins(CandidateFinder),
     /// Each match contains one of these, and no line feed.
     InLine(CandidateFinder),
+    /// Each match begins with one of these bytes, which are common.
+    FirstByte(ByteSet),
 }
 
 /// Finds the literals with which the spans of these trees begin, if there are useful ones and memory suffices.
@@ -60,6 +69,33 @@ fn inside_only(alloc: Global, trees: &[Hir]) -> Option<CandidateFinder>
     Some(finder)
 }
 
+/// The bytes with which the spans of these trees begin, if there is no empty span and typical text has many of these bytes.
+fn common_first_bytes(trees: &[Hir]) -> Option<ByteSet>
+    ensures { IfSome result (λ set. AreFirstBytes set (alternation trees.now)) }
+{
+    if !begins_often(trees) {
+        return None;
+    }
+    set_of_first_bytes(trees)
+}
+
+/// The next offset at which a span may start that begins with one of these bytes, or a later one than `from` before which none starts.
+fn next_byte(set: &ByteSet, effort: &mut Effort, haystack: &[u8], from: usize) -> Option<usize>
+    requires { from ≤ length haystack.now }
+    ensures { (x : Tree) → AreFirstBytes set.now x → IsNextStart x haystack.now from result }
+{
+    let next = next_of(set, haystack, from);
+    match next {
+        Some(at) => {
+            if MOST_SCANNED <= at.saturating_sub(from) {
+                effort.charge(SCARCE);
+            }
+        }
+        None => {}
+    }
+    next
+}
+
 /// The start of the line of an offset, or `from` if that is later.
 fn line_start(haystack: &[u8], from: usize, offset: usize) -> usize
     requires { from ≤ length haystack.now }
@@ -97,8 +133,8 @@ fn next_line(
 }
 
 impl LiteralStarts {
-    /// What literals say of the spans of these trees.
-    pub(crate) fn of(alloc: Global, trees: &[Hir]) -> LiteralStarts
+    /// What literals and first bytes say of the spans of these trees. First bytes are only asked for if `short` is true.
+    pub(crate) fn of(alloc: Global, trees: &[Hir], short: bool) -> LiteralStarts
         ensures { DescribesStarts result (alternation trees.now) }
     {
         if let Some(finder) = beginnings(alloc, trees) {
@@ -107,7 +143,13 @@ impl LiteralStarts {
         if let Some(finder) = inside_only(alloc, trees) {
             return LiteralStarts::InLine(finder);
         }
-        LiteralStarts::Unknown
+        if !short {
+            return LiteralStarts::Unknown;
+        }
+        match common_first_bytes(trees) {
+            Some(set) => LiteralStarts::FirstByte(set),
+            None => LiteralStarts::Unknown,
+        }
     }
 
     /// The next offset at which a span of the trees may start: none starts between `from` and that offset. If it returns `None`, none starts
@@ -125,6 +167,7 @@ impl LiteralStarts {
             LiteralStarts::Unknown => Some(from),
             LiteralStarts::Begins(finder) => finder.next_start(effort, haystack, from),
             LiteralStarts::InLine(finder) => next_line(finder, effort, haystack, from),
+            LiteralStarts::FirstByte(set) => next_byte(set, effort, haystack, from),
         }
     }
 }

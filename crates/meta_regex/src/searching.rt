@@ -221,7 +221,7 @@ impl Regex {
         }
     }
 
-    /// The offset of the next literal with which a match may begin: a search may begin there instead. If there is none, there is no match.
+    /// The offset of the next literal or byte with which a match may begin: a search may begin there instead. If there is none, there is no match.
     pub(crate) fn next_literal(
         &self,
         cache: &mut Cache,
@@ -238,7 +238,7 @@ impl Regex {
         self.starts().next_start(&mut cache.effort, haystack, from)
     }
 
-    /// A search without literals.
+    /// A search without literals or first bytes.
     fn search_on(
         &self,
         alloc: Global,
@@ -267,7 +267,31 @@ impl Regex {
         }
     }
 
-    /// Where a search has to begin by the literals of matches, or the match that is found by them.
+    /// A search without literals or first bytes while these don't pay.
+    fn search_resting(
+        &self,
+        alloc: Global,
+        cache: &mut Cache,
+        haystack: &[u8],
+        from: usize,
+    ) -> Result<Option<FoundMatch>, SearchError>
+        requires own { IsCacheOf self.now cache.old }
+        requires within { from ≤ length haystack.now }
+        requires valid { (config_by self.now).utf8 ≡ true → IsValidText haystack.now }
+        ensures own { IsCacheOf self.now cache.new }
+        ensures found { IfOk result (HasFoundStart (config_by self.now) self.now.texts haystack.now from) }
+        ensures preferred { self.now.loops ≡ true → IfOk result (HasFoundSpan (config_by self.now) self.now.texts haystack.now from) }
+        ensures refused { IfErr result (IsSearchError (config_by self.now) haystack.now) }
+    {
+        let found = match self.search_on(alloc, cache, haystack, from) {
+            Ok(found) => found,
+            Err(e) => return Err(e),
+        };
+        cache.effort.pass(searched_len(&found, haystack, from));
+        Ok(found)
+    }
+
+    /// Where a search has to begin by the literals or first bytes of matches, or the match that is found by them.
     fn sought_start(&self, cache: &mut Cache, haystack: &[u8], from: usize) -> Sought
         requires own { IsCacheOf self.now cache.old }
         requires within { from ≤ length haystack.now }
@@ -302,6 +326,18 @@ impl Regex {
         ensures preferred { self.now.loops ≡ true → IfOk result (HasFoundSpan (config_by self.now) self.now.texts haystack.now from) }
         ensures refused { IfErr result (IsSearchError (config_by self.now) haystack.now) }
     {
+        if !self.knows_starts() {
+            return match self.search_on(alloc, cache, haystack, from) {
+                Ok(found) => Ok(found),
+                Err(e) => Err(e),
+            };
+        }
+        if !cache.effort.pays() {
+            return match self.search_resting(alloc, cache, haystack, from) {
+                Ok(found) => Ok(found),
+                Err(e) => Err(e),
+            };
+        }
         let start = match self.sought_start(cache, haystack, from) {
             Sought::Found(found) => return Ok(Some(found)),
             Sought::Missing => return Ok(None),

@@ -1,2 +1,3 @@
 mod BuiltLemmas
 mod MeaningLemmas
+mod SetLemmas

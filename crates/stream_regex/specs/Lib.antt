@@ -1,2 +1,3 @@
 pub mod StreamRegexes
 pub mod Meaning
+pub mod Sets

@@ -8,6 +8,7 @@ use determinize_core::State;
 use std::alloc::AllocError;
 
 /// An end of a match of a pattern.
+#[repr(C)]
 #[derive(Clone, Copy, Debug, PartialEq, Eq)]
 pub struct StreamMatch {
     /// The number of the pattern.

@@ -1,11 +1,11 @@
-use Rattle.std.proofs.Common.{◌≡◌, ◌++◌, map, drop, length, option_map}
+use Rattle.std.proofs.Common.{◌≡◌, ◌++◌, map, drop, option_map}
 use Rattle.std.specs.List.{flat_map}
 use Rattle.grep_core.specs.Printing.{printed_for, span_pair, text_line}
 use Rattle.grep_core.proofs.printing.push_for_each.Given as goal
 
 abbrev pub invariant-loop-span : goal.invariant-loop-span
 invariant-loop-span l =
-    l.out.items ++ flat_map (printed_for l.what (option_map (λ n. n.now) l.name) l.role (text_line l.line) (length l.shown))
+    l.out.items ++ flat_map (printed_for l.what (option_map (λ n. n.now) l.name) l.role (text_line l.line) (map span_pair l.shown))
     (map span_pair (drop l.span-index l.shown))
-    ≡ l.initial.out.items ++ flat_map (printed_for l.what (option_map (λ n. n.now) l.name) l.role (text_line l.line) (length l.shown))
+    ≡ l.initial.out.items ++ flat_map (printed_for l.what (option_map (λ n. n.now) l.name) l.role (text_line l.line) (map span_pair l.shown))
     (map span_pair l.shown)

@@ -8,4 +8,5 @@ returns c =
     let three = joined two c.in_ok-push_separator.ensures in
     let four = joined three c.in_ok-push_no_separator.ensures in
     let five = joined four c.in_ok-push_lines.ensures in
-    on_ok_weaker c.push_headings.result (λ p. joined five p) c.push_headings.ensures
+    let six = joined five c.in_ok-push_separators.ensures in
+    on_ok_weaker c.push_headings.result (λ p. joined six p) c.push_headings.ensures

@@ -3,4 +3,6 @@ use Rattle.grep_options.proofs.Rows.{joined}
 use Rattle.grep_options.proofs.options.push_accepted.Goals as goal
 
 pub returns : goal.returns
-returns c = on_ok_weaker c.push_long.result (λ p. joined c.in_ok-push_flag.ensures p) c.push_long.ensures
+returns c =
+    let two = joined c.in_ok-push_flag.ensures c.in_ok-push_long.ensures in
+    on_ok_weaker c.push_long-2.result (λ p. joined two p) c.push_long-2.ensures

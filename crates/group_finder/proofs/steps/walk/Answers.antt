@@ -4,9 +4,9 @@ use Rattle.group_finder.proofs.steps.walk.Goals as goal
 
 pub loop-i-preserved : goal.loop-i-preserved
 loop-i-preserved c = (
-  c.after-at.ensures.within,
-  one_written c.args.haystack.now c.args.end c.args.steps.now c.loop-i.i c.loop-i.at c.after-at.result _ c.loop-i.slots c.write.new.slots _
-      (omega (arith, c.loop-i-test.true)) c.index-steps-i.is c.after-at.ensures.is c.write.ensures c.loop-i.invariant.1,
+  c.go-at.ensures.within,
+  one_written c.args.haystack.now c.args.end c.args.steps.now c.loop-i.i c.loop-i.at c.go-at.result _ c.loop-i.slots c.go-at.new.slots _
+      (omega (arith, c.loop-i-test.true)) c.index-steps-i.is c.go-at.ensures.is c.go-at.ensures.written c.loop-i.invariant.1,
 )
 
 pub returns : goal.returns

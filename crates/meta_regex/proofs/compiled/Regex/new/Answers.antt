@@ -15,7 +15,7 @@ invariant_of-result c = (
     trees = c.in-Ok.built.trees.items;
     mean = subst (λ (ts : List (List ℕ)). AllMean (config_of c.args.options.now) ts c.in-Ok.built.trees.items) (sym c.in-Ok-owned.ensures)
         c.in-Ok.ensures.trees;
-    described = subst (λ (xs : List Tree). DescribesStarts c.of-starts.result (alternation xs)) c.deref.ensures.value c.of-starts.ensures;
+    described = subst (λ (xs : List Tree). DescribesStarts c.of-starts.result (alternation xs)) c.deref-2.ensures.value c.of-starts.ensures;
   },
 )
 
