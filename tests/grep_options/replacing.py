@@ -7,6 +7,7 @@ FILES = {
     "lines": b"ab=1\nno\nab=2 ab=3\n  ab=4\n",
     "broken": b"\xff ab\xfe\n",
     "returns": b"ab\r\nx\r\nab",
+    "long": b"ab " * 400000 + b"\nab",
 }
 MARKED = b"\33[01;31m\33[K%s\33[m\33[K"
 ROWS = [
@@ -24,7 +25,7 @@ ROWS = [
     (("--replace=-", "z*"), b"-a-b-=-1-\n-n-o-\n-a-b-=-2- -a-b-=-3-\n- - -a-b-=-4-\n"),
     (("-o", "--replace=$9", "=2"), b"\n"),
     # offsets and columns are those in the line that is printed
-    (("-o", "-b", "--column", "-n", "--replace=<$0>", "=."), b"1:3:2:<=1>\n3:3:10:<=2>\n3:9:16:<=3>\n4:5:22:<=4>\n"),
+    (("-o", "-b", "--column", "-n", "--replace=<$0>", "=."), b"1:3:2:<=1>\n3:3:10:<=2>\n3:10:17:<=3>\n4:5:22:<=4>\n"),
     (("--column", "--replace=long", "a"), b"1:1:longb=1\n3:1:longb=2 longb=3\n4:3:  longb=4\n"),
     (("--vimgrep", "-h", "--replace=<$0>", "3|2"), b"3:4:ab=<2> ab=<3>\n3:11:ab=<2> ab=<3>\n"),
     (("-b", "--replace=x", "=."), b"0:abx\n8:abx abx\n18:  abx\n"),
@@ -46,8 +47,13 @@ ROWS = [
     (("-F", "--replace=$1$0", "b="), b"ab=1\nab=2 ab=3\n  ab=4\n"),
     (("-i", "--replace=x", "NO"), b"x\n"),
     (("--passthru", "--replace=x", "no"), b"ab=1\nx\nab=2 ab=3\n  ab=4\n"),
+    # the beginning of a line or match that is too long, and its matches that aren't in it
+    (("-M6", "--max-columns-preview", "--replace=xxxx", "ab="), b"xxxx1\nxxxx2  [... 1 more match]\n  xxxx [... 0 more matches]\n"),
+    (("-M4", "--max-columns-preview", "-o", "--replace=xxxxxx", "ab="), b"xxxx [... 0 more matches]\n" * 4),
+    (("--vimgrep", "-h", "-M6", "--max-columns-preview", "--replace=yyyy", "2|3"), b"3:4:ab=yyy [... 1 more match]\n3:12:ab=yyy [... 1 more match]\n"),
+    (("--field-match-separator=+", "-n", "--replace=y", "ab"), b"1+y=1\n3+y=2 y=3\n4+  y=4\n"),
     # loops whose body may match the empty string
-    (("--replace=<$1>", "(a*)*b"), b"<>=1\n<>=2 <>=3\n  <>=4\n"),
+    (("--replace=<$1>", "(a*)*b"), b"<a>=1\n<a>=2 <a>=3\n  <a>=4\n"),
     # colours: each replacement by itself, and no empty one
     (("--color=always", "--replace=x", "b="), b"a%b1\na%b2 a%b3\n  a%b4\n".replace(b"%b", MARKED % b"x")),
     (("--color=always", "--replace=", "b="), b"a1\na2 a3\n  a4\n"),
@@ -58,6 +64,9 @@ OTHERS = [
     (("--replace=<$1>", "(?-u:(.))ab", "broken"), b"\xff< >\xfe\n"),
     (("--crlf", "--replace=<$0>", "b$", "returns"), b"a<b>\r\na<b>\n"),
     (("--crlf", "-o", "--replace=<$0>", "b$", "returns"), b"<b>\n<b>\n"),
+    # a line of more than 1 MiB
+    (("-o", "--replace=<$0>", "ab", "long"), b"<ab>\n" * 400001),
+    (("--replace=<$0>", "ab", "long"), b"<ab> " * 400000 + b"\n<ab>\n"),
 ]
 REFUSED = [(("--replace",), 2), (("ab", "lines", "--replace"), 2)]
 
@@ -95,7 +104,7 @@ def compare_replacing(program, room, run, tell, tools, count=1500, seed=1):
         pattern, template, options, data = random_case(rng)
         with open(os.path.join(place, "random"), "wb") as file:
             file.write(data)
-        ours = run([program, "-h", f"--replace={template}", *options, "-e", pattern, "random"], place)[:2]
+        ours = run([program, "-h", "-N", "--no-column", f"--replace={template}", *options, "-e", pattern, "random"], place)[:2]
         words = ["rg", "--no-config", "--text", "--color=never", "-I", "-N", "--no-column", "--encoding=none"]
         theirs = run([*words, *options, "-r", template, "-e", pattern, "random"], place)[:2]
         if "--crlf" in options:
