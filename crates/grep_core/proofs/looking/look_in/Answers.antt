@@ -38,8 +38,8 @@ returns-in-Ok-replace_in-clause-has c ended is by =
 pub returns-in-Ok-replace_in-clause-shown : goal.returns-in-Ok-replace_in-clause-shown
 returns-in-Ok-replace_in-clause-shown c ended is by =
     let line : SplitLine = record { bytes = c.args.bytes.now; is_ended = ended } in
-    let shown : ShownLine = as_it_is (record { bytes = c.in-Ok-replace_in.bytes.items; is_ended = ended })
-    (map span_pair c.in-Ok-replace_in.spans.items) in
+    let shown : ShownLine = as_it_is (record { bytes = c.in-Ok-replace_in.field-0.bytes.items; is_ended = ended })
+    (map span_pair c.in-Ok-replace_in.field-0.spans.items) in
     replaced_needed c.args.what.now (found_by by) line c.in-Some.template shown
     (sym c.needs_shown.ensures ∙ c.if-not-needs_shown.false) c.in-Some.is
     (subst (λ (s : Sought). c.args.line.now ≡ searched s.how.crlf line → (n : Bool) (by : SearchesFor s n) →

@@ -8,4 +8,4 @@ returns-clause-replaced c ended is spans by =
     replaced_as c.args.finder.now spans by (record { bytes = c.args.bytes.now; is_ended = ended }) c.args.template.now c.args.line.now
     c.in-Ok.replaced.bytes.items c.extend_from_slice.new.self.items (map span_pair c.in-Ok.replaced.spans.items) is c.in-Ok.ensures.reported
     (c.in_ok-extend_from_slice.ensures.items
-    ∙ ap (λ xs. c.in-Ok.replaced.bytes.items ++ xs) (c.text_from.ensures ∙ ap (λ n. drop n c.args.bytes.now) c.len.ensures))
+    ∙ ap (λ xs. c.in-Ok.replaced.bytes.items ++ xs) c.text_from.ensures)

@@ -34,7 +34,8 @@ returns-in_default-clause-replaced c =
     let line = c.args.line.now in
     replaces_all how texts c.args.template.now line (length line + 1) c.loop-count.out.bytes.items c.extend_from_slice.new.self.items
     (map span_pair c.loop-count.out.spans.items) c.loop-count.count c.loop-count.last refl c.loop-count.invariant.2
-    (λ res read. none_comes (find (line_pattern how res) line) (length line + 1) c.loop-count.count c.loop-count.last
+    (λ res read. none_comes (find (line_pattern how res) line) (written_for how (all_names how texts) res c.args.template.now line) line
+    (length line + 1) c.loop-count.count c.loop-count.last
     (no_match (comes (find (line_pattern how res) line) c.loop-count.last) c.capture_next.new.cells
     (subst (λ (o : Option Span). HasGroups (comes (find (line_pattern how res) line) c.loop-count.last) (option_map span_pair o)
     c.capture_next.new.cells) c.in_default.is
@@ -74,7 +75,8 @@ returns-clause-replaced c =
     let line = c.args.line.now in
     replaces_all how texts c.args.template.now line (length line + 1) c.loop-count.out.bytes.items c.extend_from_slice-2.new.self.items
     (map span_pair c.loop-count.out.spans.items) c.loop-count.count c.loop-count.last refl c.loop-count.invariant.2
-    (λ res read. none_may (find (line_pattern how res) line) (length line + 1) c.loop-count.count c.loop-count.last (omega (arith, c.loop-count-test.false)))
+    (λ res read. none_may (find (line_pattern how res) line) (written_for how (all_names how texts) res c.args.template.now line) line
+    (length line + 1) c.loop-count.count c.loop-count.last (omega (arith, c.loop-count-test.false)))
     (c.in_ok-extend_from_slice-2.ensures.items
     ∙ ap (λ xs. c.loop-count.out.bytes.items ++ xs)
     (c.bytes_between-2.ensures ∙ ap (λ i. slice_range line i (length line)) c.unwrap_or-2.ensures))

@@ -69,8 +69,9 @@ returns c =
     let several : 1 < length (map (λ t. t.now) c.self.inside.texts.now) =
     omega (arith, c.if-self-le1.false, length-map c.self.inside.texts.now (λ t. t.now)) in
     let all : c.loop-number.number ≡ length c.self.inside.each.items = omega (arith, c.loop-number-test.false, c.len-number-end.ensures) in
+    let back : c.len.result ≡ c.loop-number.number = omega (arith, all, c.len.ensures) in
     subst (IsNumber c.args.line.now c.args.start c.len.result) c.self.view_is
-    (λ res read some. c.len.ensures ∙ sym all ∙ found_none c.self.inside.how (map (λ t. t.now) c.self.inside.texts.now) c.self.inside.each.items
+    (λ res read some. back ∙ found_none c.self.inside.how (map (λ t. t.now) c.self.inside.texts.now) c.self.inside.each.items
     (c.self.invariant.1 several) c.args.line.now c.args.start c.loop-number.number (omega (arith, all)) (omega (arith, all))
     (subst (λ (v : PatternOptions × List (List ℕ)). NoneOf v.0 v.1 c.args.line.now c.args.start c.loop-number.number) (sym c.self.view_is)
     c.loop-number.invariant) res read)
