@@ -21,8 +21,8 @@ all_lack t s by lines none =
     All-weaker (λ line. (found_by by).has_match line ≡ false) (HasNoMatch (finds_by t by))
     (λ line lacks. record {
       no_match = lacks;
-      no_text = none_found by.how (all_names by.how s.texts) by.patterns t.what.now line lacks;
-      no_change = none_changed by.how (all_names by.how s.texts) by.patterns t.what.now line lacks;
+      no_text = none_found by.how by.names by.patterns t.what.now line lacks;
+      no_change = none_changed by.how by.names by.patterns t.what.now line lacks;
     }) lines none
 
 -- the first of the lines that are left, and the others

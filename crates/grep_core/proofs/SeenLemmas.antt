@@ -133,6 +133,8 @@ moved_by {p} {q} {spans} same by = record {
   same = by.same ∙ sym (ap (λ (s : Sought). s.how) same);
   patterns = by.patterns;
   are_read = subst (λ (s : Sought). AreReadAs (line_config by.how) s.texts by.patterns) (sym same) by.are_read;
+  names = by.names;
+  named = by.named ∙ ap (λ (s : Sought). all_names by.how s.texts) (sym same);
 }
 
 -- what is reported of some bytes, for what is sought
@@ -166,6 +168,7 @@ replaced_as s spans by line template text bytes all found is replaced whole =
     ∙ ap (λ b. b ++ drop (length text) line.bytes) (own.bytes_are by.patterns by.are_read)
     ∙ ap (λ t. replaced_text by.how names by.patterns template t ++ drop (length t) line.bytes) now)
     (own.spans_are by.patterns by.are_read ∙ ap (replaced_spans by.how names by.patterns template) now)
+    ∙ ap (λ (ns : List Names). replaced_line by.how ns by.patterns template line) (sym by.named)
 
 -- whether a line has a match, by the bytes of it that are searched
 pub searched_by : (s : Sought) (spans : Bool) (by : SearchesFor s spans) (text : List ℕ) (line : SplitLine) (has : Bool) →

@@ -1,6 +1,7 @@
 -- What a line searcher is built from, and what it reports about a line.
 use Rattle.std.specs.Prelude.{◌≡◌, ◌⊎◌, ℕ, Bool, true, false, List, [], ◌∷◌, Option, Some, Err}
 use Rattle.regex_hir.specs.Re.{Re}
+use Rattle.regex_syntax.specs.Grammar.{Names}
 use Rattle.hir_core.specs.Tree.{Tree}
 use Rattle.lazy_dfa.specs.declared.build_error.BuildError.TheVariants.{NoMemory}
 use Rattle.search_types.specs.declared.match_error.MatchErrorKind.{MatchErrorKind}
@@ -65,16 +66,19 @@ pub record Sought : Type 0 where
   pub texts : List (List ℕ)
   pub spans : Bool
 
--- The search finds in lines what the patterns match as they are parsed. It is asked for matches only if it may be.
+-- The search finds in lines what the patterns match as they are parsed. It is asked for matches only if it may be. The groups of the patterns
+-- have these names.
 pub record SearchesFor (s : Sought) (spans : Bool) : Type 0 where
   pub may : spans ≡ true → s.spans ≡ true
   pub how : PatternOptions
   pub same : how ≡ s.how
   pub patterns : List Re
   pub are_read : AreReadAs (line_config how) s.texts patterns
+  pub names : List Names
+  pub named : names ≡ all_names how s.texts
 
 abbrev pub found_by : {s : Sought} {spans : Bool} → SearchesFor s spans → LineMatcher
-found_by {s} by = finds_of by.how (all_names by.how s.texts) by.patterns
+found_by by = finds_of by.how by.names by.patterns
 
 -- Why no searcher is built from patterns. With `Text`, this is the first pattern that can't be parsed. With `EmptyLoop`, matches are asked
 -- for, and this is the first pattern with an empty loop. With `Build`, no regex can be built from the one tree of the patterns, or memory

@@ -5,7 +5,6 @@ use Rattle.grep_core.specs.Printing.{span_pair}
 use Rattle.grep_core.specs.Report.{ShownLine, as_it_is}
 use Rattle.grep_core.specs.Searchers.{Sought, AreReported, SearchesFor, found_by}
 use Rattle.grep_core.specs.Reporting.{needs_shown, needs_spans}
-use Rattle.grep_core.specs.Replacing.{all_names}
 use Rattle.grep_core.proofs.SeenLemmas.{none_shown, none_needed, all_needed, moved_by, progress_by, replaced_needed, spans_by, spans_needed}
 use Rattle.grep_core.proofs.SeenLemmas.{searched_by}
 use Rattle.grep_core.proofs.looking.look_in.Goals as goal
@@ -22,7 +21,7 @@ returns-then-not-has-clause-shown c ended is by =
     ap (λ found. as_it_is line (map span_pair found)) c.new.ensures.items
     ∙ elim c.then-not-has.branch [
       | then-not-has-via-then-not-has w ↦
-          sym (none_shown c.args.what.now by.how (all_names by.how c.args.finder.now.texts) by.patterns line c.in-Ok.has
+          sym (none_shown c.args.what.now by.how by.names by.patterns line c.in-Ok.has
           (searched_by c.args.finder.now (needs_spans c.args.what.now) by c.args.line.now line c.in-Ok.has is
           (progress_by c.args.finder.now (needs_spans c.args.what.now) by c.args.line.now c.in-Ok.has c.in-Ok.ensures.reported))
           w.if-not-has.true)
