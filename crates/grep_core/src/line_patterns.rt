@@ -6,6 +6,7 @@ ghost use Rattle.grep_core.specs.Fallbacks.{IsProgramOf};
 ghost use Rattle.grep_core.specs.Searchers.{IsSearcherError};
 
 use crate::fallback::{EARLY_SIZE_LIMIT, program_of};
+use crate::fault::Fault;
 use crate::parsed_patterns::ParsedPatterns;
 use crate::pattern_groups::{GROUPS_SIZE_LIMIT, PatternGroups};
 use crate::patterns::PatternOptions;
@@ -24,6 +25,7 @@ pub struct LinePatterns<'t> {
     parsed: ParsedPatterns<'t>,
     program: Option<Box<Program>>,
     groups: Option<PatternGroups<'t>>,
+    fault: Fault,
 }
 
 impl<'t> Model for LinePatterns<'t> {
@@ -66,6 +68,20 @@ fn program_at_once(alloc: Global, texts: &[&str], how: &PatternOptions) -> Optio
     }
 }
 
+/// Why matches can't be replaced, if the program or the groups couldn't be made.
+fn fault_of(
+    program: &Result<Box<Program>, Fault>,
+    groups: &Result<PatternGroups<'_>, Fault>,
+) -> Fault {
+    match program {
+        Err(e) => *e,
+        Ok(_) => match groups {
+            Err(e) => *e,
+            Ok(_) => Fault::TooLarge,
+        },
+    }
+}
+
 impl<'t> LinePatterns<'t> {
     /// Takes patterns in the syntax that is parsed. No error is reported for a pattern: [`Finder::new`](crate::Finder::new) reports it.
     pub fn new(alloc: Global, texts: &'t [&'t str], how: &PatternOptions) -> LinePatterns<'t>
@@ -76,6 +92,7 @@ impl<'t> LinePatterns<'t> {
             parsed: ParsedPatterns::new(alloc, texts, how),
             program,
             groups: None,
+            fault: Fault::TooLarge,
         }
     }
 
@@ -88,12 +105,14 @@ impl<'t> LinePatterns<'t> {
     ) -> LinePatterns<'t>
         ensures { result ≡ (how.now, map (λ t. t.now) texts.now) }
     {
-        let program = program_of(alloc, how, texts, GROUPS_SIZE_LIMIT).ok();
-        let groups = PatternGroups::new(alloc, texts, how).ok();
+        let program = program_of(alloc, how, texts, GROUPS_SIZE_LIMIT);
+        let groups = PatternGroups::new(alloc, texts, how);
+        let fault = fault_of(&program, &groups);
         LinePatterns {
             parsed: ParsedPatterns::new(alloc, texts, how),
-            program,
-            groups,
+            program: program.ok(),
+            groups: groups.ok(),
+            fault,
         }
     }
 
@@ -131,6 +150,11 @@ impl<'t> LinePatterns<'t> {
             Some(groups) => Some(groups),
             None => None,
         }
+    }
+
+    /// Why matches can't be replaced, if they can't.
+    pub(crate) fn fault(&self) -> Fault {
+        self.fault
     }
 
     /// Their program, if one is kept.

@@ -142,10 +142,10 @@ impl<'t> SlowSearch<'t> {
             AreReplaced self.old.0 self.old.1 template.now line.now r.bytes.items (map span_pair r.spans.items)) }
     {
         let Some(groups) = self.patterns.groups() else {
-            return Err(Fault::TooLarge);
+            return Err(self.patterns.fault());
         };
         let Some(searcher) = &mut self.kept else {
-            return Err(Fault::TooLarge);
+            return Err(self.patterns.fault());
         };
         match replace_all(alloc, searcher, groups, line, template) {
             Ok(replaced) => Ok(replaced),
