@@ -102,7 +102,7 @@ RIPGREP = [
     row("`-o`", "-o ab log", differing=("-o x* log",), how="empty matches aren't printed"),
     row("`-m`", "-m1 ab log"),
     row("`-A`, `-B`, `-C`", "-A1 two log", "-C1 -n two log", differing=("-A0 ab crlf log",), how="0 lines of context still have a line between groups"),
-    row("`-r`, `--replace`", "--replace=x ab log", why="not asked for yet"),
+    row("`-r`, `--replace`", "-r x ab log | --replace=x ab log", differing=("-r $1 -e (a) -e (b) log | --replace=$1 -e (a) -e (b) log",), how="groups are those of the pattern that matched, and `-r` searches folders"),
     row("`-g`, `--glob`", "-g *.c -l ab tree/in | -r -g *.c -l ab tree/in", "-tpy -g *.c -l ab tree/in | -r -tpy -g *.c -l ab tree/in"),
     row("`--iglob`, `--glob-case-insensitive`", "--iglob *.C -l ab tree/in | -r --iglob *.C -l ab tree/in",
         "--glob-case-insensitive -g *.C -l ab tree/in | -r --glob-case-insensitive -g *.C -l ab tree/in"),

@@ -3,13 +3,14 @@ ghost use Rattle.std.specs.Prelude.{◌≡◌, IfErr, IfOk, map, option_map, tru
 ghost use Rattle.grep_core.specs.Candidates.{IsLineStart, IsNextLine};
 ghost use Rattle.grep_core.specs.LongLines.{IsNextSpan, IsFoundSpan};
 ghost use Rattle.grep_core.specs.Printing.{span_pair};
-ghost use Rattle.grep_core.specs.Searchers.{IsMatchReported, AreReported, IsSearcherError, SearchesFor};
+ghost use Rattle.grep_core.specs.Searchers.{AreReplaced, IsMatchReported, AreReported, IsSearcherError, SearchesFor};
 
 use crate::candidates::Reached;
 use crate::fallback::ends_at;
 use crate::fault::Fault;
 use crate::line_finder::LineFinder;
 use crate::line_patterns::LinePatterns;
+use crate::replacing::Replaced;
 use crate::searcher::{Searcher, SearcherError};
 use crate::sizes::Size;
 use crate::slow_search::SlowSearch;
@@ -293,6 +294,24 @@ impl<'t> Finder<'t> {
             Ok(found) => Ok(found),
             Err(e) => Err(e),
         }
+    }
+
+    /// The line with its matches replaced by what a template writes for them, for patterns that were taken with their groups.
+    pub(crate) fn replaced(
+        &mut self,
+        alloc: Global,
+        line: &[u8],
+        template: &[u8],
+    ) -> Result<Replaced, Fault>
+        ensures same { self.new ≡ self.old }
+        ensures reported { IfOk result (λ r.
+            AreReplaced self.old.how self.old.texts template.now line.now r.bytes.items (map span_pair r.spans.items)) }
+    {
+        let replaced = match self.slow.replaced(alloc, line, template) {
+            Ok(replaced) => replaced,
+            Err(e) => return Err(e),
+        };
+        Ok(replaced)
     }
 
     /// Whether it may be asked for matches.

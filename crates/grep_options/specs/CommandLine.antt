@@ -270,6 +270,7 @@ line_options =
     ∷ option (codes "max-columns") (codes "M") Set
     ∷ flag (codes "max-columns-preview") []
     ∷ passthru_option
+    ∷ option (codes "replace") [] Set
     ∷ []
 
 -- what separates fields, and the parts of names

@@ -98,7 +98,8 @@ is_awaiting_separator w =
 -- one of the options on the format of what is printed, or on what is printed of files with zero bytes
 abbrev pub is_awaiting_format : List ℕ → Bool
 is_awaiting_format w =
-    is_awaiting_separator w || (bytes_eq w (codes "--max-columns") || (bytes_eq w (codes "--binary-files") || bytes_eq w (codes "--encoding")))
+    is_awaiting_separator w
+    || (bytes_eq w (codes "--max-columns") || (bytes_eq w (codes "--replace") || (bytes_eq w (codes "--binary-files") || bytes_eq w (codes "--encoding"))))
 
 -- a long option whose value is the next word
 abbrev pub is_awaiting : List ℕ → Bool

@@ -201,6 +201,7 @@ fn is_awaiting_format(word: &str) -> bool
 {
     is_awaiting_separator(word)
         || word == "--max-columns"
+        || word == "--replace"
         || word == "--binary-files"
         || word == "--encoding"
 }

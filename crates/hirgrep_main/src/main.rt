@@ -36,7 +36,9 @@ mod type_changes;
 mod walking;
 
 use crate::arguments::{arguments_of, report_usage};
-use crate::asked::{Asked, Directories, asked_of, color_of, groups_of, input_name, is_colorful};
+use crate::asked::{
+    Asked, Directories, asked_of, color_of, groups_of, input_name, is_colorful, template_of,
+};
 use crate::file_types::{TYPES, list_of_types};
 use crate::messages::{report_error, report_output};
 use crate::outcome::Outcome;
@@ -183,7 +185,13 @@ fn run_with<'a>(
     given: &'a GivenTexts,
 ) -> Result<u8, AllocError> {
     let texts = given.texts(matches.get_str("path-separator"));
-    let asked = asked_of(matches, is_colorful, texts, groups_of(matches));
+    let asked = asked_of(
+        matches,
+        is_colorful,
+        texts,
+        groups_of(matches),
+        template_of(matches),
+    );
     let outcome = run_asked(rt, &asked, matches)?;
     Ok(outcome.status(&asked))
 }

@@ -776,6 +776,16 @@ fn search_texts(
     }
 }
 
+/// The patterns that are searched for, with their groups if matches are replaced.
+fn sought_of<'t>(rt: &HostRuntime, asked: &Asked, texts: &'t [&'t str]) -> LinePatterns<'t>
+    ensures { result ≡ (asked.now.how, map (λ t. t.now) texts.now) }
+{
+    if asked.what.replacement.is_some() {
+        return LinePatterns::with_groups(rt.alloc(), texts, &asked.how);
+    }
+    LinePatterns::new(rt.alloc(), texts, &asked.how)
+}
+
 /// Searches files for patterns. `texts` are the patterns in the syntax that is parsed.
 fn search_words(
     rt: &HostRuntime,
@@ -784,7 +794,7 @@ fn search_words(
     texts: &[&str],
     files: Files<'_>,
 ) -> Result<Outcome, AllocError> {
-    let sought = LinePatterns::new(rt.alloc(), texts, &asked.how);
+    let sought = sought_of(rt, asked, texts);
     search_texts(rt, asked, patterns, texts, &sought, files)
 }
 
