@@ -16,6 +16,7 @@ use crate::slow_search::SlowSearch;
 use search_types::{MatchError, MatchErrorKind, Span};
 use std::alloc::Global;
 use std::marker::Model;
+use std::mem;
 
 /// Finds patterns in lines.
 ///
@@ -38,6 +39,10 @@ pub struct Finder<'t> {
     line_size: Size,
     /// How often caches of the search of lines were cleared that have been replaced by larger ones.
     past_clears: usize,
+    /// Room for the bytes of an input, which is kept for the next one.
+    room: Vec<u8>,
+    /// How many reads there were into it.
+    reads: u64,
 }
 
 impl<'t> Model for Finder<'t> {
@@ -104,7 +109,25 @@ impl<'t> Finder<'t> {
             candidates,
             line_size: Size::first(),
             past_clears: 0,
+            room: Vec::new(alloc),
+            reads: 0,
         })
+    }
+
+    /// Takes the room for the bytes of an input. Returns it, and how many reads there were into it.
+    pub(crate) fn take_room(&mut self, alloc: Global) -> (Vec<u8>, u64)
+        ensures { self.new ≡ self.old }
+    {
+        let room = mem::replace(&mut self.room, Vec::new(alloc));
+        (room, self.reads)
+    }
+
+    /// Keeps the room for the next input, and how many reads there were into it.
+    pub(crate) fn keep_room(&mut self, room: Vec<u8>, reads: u64)
+        ensures { self.new ≡ self.old }
+    {
+        self.room = room;
+        self.reads = reads;
     }
 
     /// Whether a carriage return right before a line feed belongs to the end of a line.
