@@ -2,23 +2,35 @@
 
 Where a name is printed to a file or a pipe, each byte is printed, as GNU grep and ripgrep do, so that programs can read it. To a terminal
 GNU grep and ripgrep also print each byte. GNU ls doesn't: since a name could change what a terminal shows, or what it does, `ls -q`, which
-is the default there, prints a question mark for each control character. hirgrep is to do as `ls -q` does. A message on standard error is
-one line whatever the name, so there the same is wanted, terminal or not."""
+is the default there, prints a question mark for each control character. hirgrep does as `ls -q` does, unless a zero byte ends each name. A
+message on standard error is one line whatever the name, so there the same is wanted, terminal or not."""
 
 import os
 import pty
 import re
 import select
 
-from .runs import ENVIRONMENT, NO_END, Check, Known, Result, end, error, run, start
+from .runs import Check, Result, end, error, run, start
 
 CONTROLS = ["a\nb", "esc\33[31mred\7", "del\x7f", "tab\there", "return\rx", "next\x85line", "csi\x9b31m"]
 PLAIN = ["ab", "-x", "a:b", " a ", "ä ☺", "*", "'\"\\"]
 MARK = re.compile("[\0-\x1f\x7f-\x9f]")
 BROKEN = "x(\\?|\\\\xff|\ufffd)"  # some forms of x and FF that are clear
-PRINTED = "grep_core/src/reporter.rt: push_name and push_field print each byte of a name"
 MIXED = "a\n\33[31m\7\x7f" * 27  # 243 bytes
 MANY = 300
+# words before a name, the status, and what is printed before and after it
+SHOWN = [
+    (("-H", "ab"), 0, b"", b":ab\n"),
+    (("-o", "-H", "a"), 0, b"", b":a\n"),
+    (("-c", "-H", "ab"), 0, b"", b":1\n"),
+    (("-l", "ab"), 0, b"", b"\n"),
+    (("-L", "abc"), 1, b"", b"\n"),
+    (("--files",), 0, b"", b"\n"),
+    (("--heading", "-H", "ab"), 0, b"", b"\nab\n"),
+    (("--vimgrep", "ab"), 0, b"", b":1:1:ab\n"),
+    (("--color=always", "-l", "ab"), 0, b"\33[35m\33[K", b"\33[m\33[K\n"),
+]
+ENDED_BY_ZERO = [(("-Z", "-H", "ab"), 0, b"", b"\0ab\n"), (("-Z", "-l", "ab"), 0, b"", b"\0"), (("-Z", "--files"), 0, b"", b"\0")]
 
 
 def shown(name):
@@ -26,11 +38,11 @@ def shown(name):
     return MARK.sub("?", name)
 
 
-def at_terminal(words, room, is_error=False):
+def at_terminal(words, room, is_error=False, given=os.devnull):
     """A run whose standard output, or standard error, is a terminal. What comes there is the output, with line feeds as they were."""
     ours, theirs = pty.openpty()
     streams = {"stderr" if is_error else "stdout": theirs}
-    with start(words, room, **streams) as ran:
+    with open(given, "rb") as file, start(words, room, stdin=file, **streams) as ran:
         os.close(theirs)
         printed = read_terminal(ours)
         os.close(ours)
@@ -85,13 +97,26 @@ class Names:
         all_of_them = b";".join(sorted([b"", *map(os.fsencode, (*CONTROLS, *PLAIN))]))
         yield Check("all names, of a folder", lambda: self.sorted("-r", "ab"), 0, all_of_them)
 
+    def at_terminal(self, words, name, printed, status=0):
+        """A check of a run over a file, of which the output comes to a terminal."""
+        return Check(f"at a terminal, {' '.join(words)}, the name {name!r}", lambda: at_terminal([self.program, *words, f"./{name}"], self.folder), status, printed)
+
     def terminal_checks(self):
         for name in (*CONTROLS, *PLAIN):
-            for words, rest in ((("-H", "ab"), b":ab\n"), (("-l", "ab"), b"\n"), (("-c", "-H", "ab"), b":1\n")):
-                printed = b"./" + shown(name).encode() + rest
-                known = Known(PRINTED, 0, "", b"./" + os.fsencode(name) + rest) if MARK.search(name) else None
-                run = lambda words=words, it=name: at_terminal([self.program, *words, f"./{it}"], self.folder)
-                yield Check(f"at a terminal, {words[0]}, the name {name!r}", run, 0, printed, "", known)
+            for words, status, before, after in SHOWN:
+                yield self.at_terminal(words, name, before + b"./" + shown(name).encode() + after, status)
+            for words, status, before, after in ENDED_BY_ZERO:
+                yield self.at_terminal(words, name, before + b"./" + os.fsencode(name) + after, status)
+        everything = sorted(f"./{shown(it)}" for it in (*CONTROLS, *PLAIN))
+        yield Check("at a terminal, all names, of a folder", self.all_at_terminal, 0, "\n".join(everything).encode())
+        label = CONTROLS[1]
+        run = lambda: at_terminal([self.program, "-H", f"--label={label}", "ab", "-"], self.folder, given=os.path.join(self.folder, "ab"))
+        yield Check("at a terminal, a label", run, 0, shown(label).encode() + b":ab\n")
+
+    def all_at_terminal(self):
+        """The names that a search of the folder lists, in an order that doesn't depend on the folder's."""
+        result = at_terminal([self.program, "-rl", "ab", "."], self.folder)
+        return Result(result.status, b"\n".join(sorted(result.printed.splitlines())), result.said)
 
     def message_checks(self):
         """No control character of a name is in a message, which has one line."""
@@ -124,8 +149,7 @@ class Names:
         self.write(MIXED)
         words = [self.program, "-H", "ab", path]
         yield Check("a path of 4,043 bytes with escape sequences", lambda: self.run(*words[1:]), 0, path.encode() + b":ab\n")
-        known = Known(PRINTED, 0, "", path.encode() + b":ab\n")
-        yield Check("that path, at a terminal", lambda: at_terminal(words, self.folder), 0, shown(path).encode() + b":ab\n", "", known)
+        yield Check("that path, at a terminal", lambda: at_terminal(words, self.folder), 0, shown(path).encode() + b":ab\n")
         said = error(shown(path) + "x", "No such file or directory")
         yield Check("that path of a missing file", lambda: self.run("ab", path + "x"), 2, b"", said)
 

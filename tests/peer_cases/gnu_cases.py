@@ -1,12 +1,14 @@
 """Runs the tests of GNU grep with another program: the shell scripts as they are, with a folder in front of PATH that has the program as
-grep, egrep and fgrep, and the rows of the tables of regexes."""
+grep, egrep and fgrep. Their words are translated by gnu_words.py."""
 
 import concurrent.futures
 import os
 import re
+import shlex
 import shutil
 import signal
 import subprocess
+import sys
 import tempfile
 
 # What tells scripts how many bytes a character has in a locale. The package has it as a program in C.
@@ -21,17 +23,18 @@ library.setlocale(locale.LC_ALL, sys.argv[1].encode())
 library.__ctype_get_mb_cur_max.restype = ctypes.c_size_t
 print(library.__ctype_get_mb_cur_max())
 """
+WORDS = os.path.join(os.path.dirname(os.path.realpath(__file__)), "gnu_words.py")
 # Messages are compared after the program's name.
 WRAPPER = """#!/bin/bash
 exec 3>&1
-{ '%s' %s"$@" 2>&1 >&3 3>&- 4>&- | /bin/sed -u 's/^%s: /%s: /' >&2 3>&-; exit "${PIPESTATUS[0]}"; }
+{ %s "$@" 2>&1 >&3 3>&- 4>&- | /bin/sed -u 's/^%s: /grep: /' >&2 3>&-; exit "${PIPESTATUS[0]}"; }
 """
 # What is appended to the settings of all scripts: a locale counts as there if the system has it, whatever the program makes of its classes.
 INIT = """
 path_prepend_ "$abs_top_builddir/tests"
 require_compiled_in_MB_support () { :; }
 """
-SECONDS = 60
+SECONDS = 180
 # names that scripts ask for, with their sources
 LOCALES = {"en_US.UTF-8": ("en_US", "UTF-8"), "cs_CZ.UTF-8": ("cs_CZ", "UTF-8"), "tr_TR.UTF-8": ("tr_TR", "UTF-8"), "ru_RU.KOI8-R": ("ru_RU", "KOI8-R"),
            "ja_JP.EUC-JP": ("ja_JP", "EUC-JP"), "ja_JP.eucJP": ("ja_JP", "EUC-JP"), "ja_JP.SHIFT_JIS": ("ja_JP", "SHIFT_JIS"), "zh_CN.gb18030": ("zh_CN", "GB18030")}
@@ -73,7 +76,8 @@ def prepare(folder, room, program):
     os.makedirs(os.path.join(room, "src"))
     name = os.path.basename(program)
     for each, words in (("grep", ""), ("egrep", "-E "), ("fgrep", "-F ")):
-        text = f'#!/bin/bash\nexec -a {each} {program} {words}"$@"\n' if name == "grep" else WRAPPER % (program, words, name, "grep")
+        run = " ".join(shlex.quote(it) for it in (sys.executable, "-ESB", WORDS, program, each))
+        text = f'#!/bin/bash\nexec -a {each} {program} {words}"$@"\n' if name == "grep" else WRAPPER % (run, name)
         write(os.path.join(room, "src", each), text)
     write(os.path.join(room, "tests", "get-mb-cur-max"), MOST_BYTES)
     init = os.path.join(room, "tests", "init.cfg")

@@ -3,35 +3,10 @@
 import os
 import subprocess
 
+from peer_cases.gnu_words import extended
+
 # the tables, and whether their regexes have basic syntax
 TABLES = {"spencer1": False, "ere": False, "bre": True}
-SWAPPED = "(){}+?|"
-
-
-def extended(regex):
-    """A regex of basic syntax in extended syntax. What is special only in some places is made plain in the others."""
-    out, at, begins = [], 0, True
-    while at < len(regex):
-        c = regex[at]
-        if c == "[":
-            end = regex.find("]", at + (3 if regex[at + 1:at + 2] == "^" else 2))
-            end = len(regex) if end < 0 else end + 1
-            out.append(regex[at:end])
-            at, begins = end, False
-            continue
-        following = regex[at + 1:at + 2]
-        if c == "\\" and following and following in SWAPPED:
-            out.append(following)
-            at, begins = at + 2, following in "(|"
-            continue
-        if c == "\\":
-            out.append(c + following)
-            at, begins = at + 2, False
-            continue
-        plain = c in SWAPPED or (c == "*" and begins) or (c == "^" and not begins) or (c == "$" and regex[at + 1:] and not regex.startswith(("\\)", "\\|"), at + 1))
-        out.append("\\" + c if plain else c)
-        at, begins = at + 1, begins and c == "^"
-    return "".join(out)
 
 
 def rows_of(folder, table):

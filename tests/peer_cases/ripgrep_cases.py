@@ -230,14 +230,14 @@ def be(value):
 class Setting:
     """The program, and what the command that ran last printed."""
 
-    def __init__(self, program, is_ripgrep, has_ignore):
-        self.program, self.is_ripgrep, self.has_ignore = program, is_ripgrep, has_ignore
+    def __init__(self, program, is_ripgrep, options):
+        self.program, self.is_ripgrep, self.options = program, is_ripgrep, options
         self.ran, self.last = False, None
 
     def words(self, words, reads_input):
         if self.is_ripgrep:
             return [self.program, "--no-config", "--path-separator", "/", *words]
-        return [self.program, *hirgrep_words(words, reads_input, self.has_ignore)]
+        return [self.program, *hirgrep_words(words, reads_input, self.options)]
 
 
 def names_for(folder):

@@ -21,7 +21,7 @@ FILES = {
     "tree/sub/two": b"no\nab in two\n",
 }
 PATTERN = "a[b-d]"
-GIVEN = {"PATTERN": PATTERN, "FILE": "patterns", "FOLDER": ".", "N": "1", "GLOB": "*o*", "SEP": "==", "NAME": "given", "REPLACEMENT": "<$0>"}
+GIVEN = {"PATTERN": PATTERN, "FILE": "patterns", "FOLDER": ".", "N": "1", "GLOB": "*o*", "SEP": "==", "NAME": "given", "TEMPLATE": "<$0>"}
 # what no single option has: searches in which the automata give up, several patterns and files, long context
 OTHERS = [
     ("-w", "-n", "-e", "Ma.|ab", "letters", "a.log"),
@@ -31,6 +31,7 @@ OTHERS = [
     ("-v", "-n", "-b", "-H", "-T", "-e", PATTERN, "a.log"),
     ("-A1", "-B1", "--color=always", "-n", "-e", PATTERN, "a.log", "letters"),
     ("-M3", "--max-columns-preview", "--column", "--color=always", "-e", PATTERN, "a.log", "letters"),
+    ("--replace=<$1$x>", "-o", "-n", "-e", "(a).", "-e", "(?P<x>z)", "a.log", "letters"),
     ("-r", "-l", "-Z", "-e", PATTERN, "tree"),
     ("-r", "--exclude-from", "globs", "--sort", "path", "-e", PATTERN, "tree"),
     ("-e", PATTERN, "missing", "a.log"),

@@ -232,20 +232,40 @@ typedef struct {
     size_t character;
 } Position;
 
-static size_t count_characters_in(const uint8_t *bytes, size_t length)
+/* How many of these 8 bytes are in a character but not its first. Only of such a byte the top bit is set and the next one isn't. */
+static inline size_t count_inner(uint64_t word)
 {
-    size_t count = 0;
-    for (size_t i = 0; i < length; i++)
-        count += (bytes[i] & 0xC0) != 0x80;
+    const uint64_t ones = 0x0101010101010101u;
+    return (size_t)((((word >> 7) & ~(word >> 6) & ones) * ones) >> 56);
+}
+
+static inline uint64_t word_at(const uint8_t *bytes)
+{
+    uint64_t word;
+    memcpy(&word, bytes, sizeof word);
+    return word;
+}
+
+/* How many characters start between two offsets. The last bytes are read as the top ones of a word, as machines with a library store them. */
+static inline size_t count_between(const Haystack *haystack, size_t start, size_t end)
+{
+    const uint8_t *bytes = haystack->bytes;
+    size_t count = end - start;
+    for (; end - start >= 8; start += 8)
+        count -= count_inner(word_at(bytes + start));
+    if (start < end && end >= 8)
+        return count - count_inner(word_at(bytes + end - 8) >> 8 * (8 - (end - start)));
+    for (; start < end; start++)
+        count -= is_inside_character(haystack, start);
     return count;
 }
 
 /* Moves to an offset at or after the position, and returns its number of characters. */
-static size_t move_to(Position *position, const Haystack *haystack, size_t byte)
+static inline size_t move_to(Position *position, const Haystack *haystack, size_t byte)
 {
     if (!haystack->has_characters)
         return byte;
-    position->character += count_characters_in(haystack->bytes + position->byte, byte - position->byte);
+    position->character += count_between(haystack, position->byte, byte);
     position->byte = byte;
     return position->character;
 }
@@ -990,6 +1010,7 @@ typedef struct {
 static Match *free_matches;
 static size_t free_count;
 
+/* A match that was freed and is kept has no reference to it, and keeps its reference to its type. */
 static inline Match *allocate_match(void)
 {
     Match *match = free_matches;
@@ -997,7 +1018,7 @@ static inline Match *allocate_match(void)
         return PyObject_GC_New(Match, match_type);
     free_matches = (Match *)match->haystack;
     free_count--;
-    return (Match *)PyObject_Init((PyObject *)match, match_type);
+    return (Match *)new_reference((PyObject *)match);
 }
 
 /* Whether a haystack refers to no other object. Not tracking matches of these saves time. */
@@ -1065,8 +1086,8 @@ static void match_dealloc(PyObject *self)
         free_count++;
     } else {
         PyObject_GC_Del(self);
+        Py_DECREF(type);
     }
-    Py_DECREF(type);
 }
 
 /* The part of a haystack between two offsets in bytes. */
@@ -1123,6 +1144,14 @@ static void count_offsets(const Match *match, const Haystack *haystack, const si
     }
 }
 
+/* Those of a match in which each character is one byte. */
+static void move_offsets(const Match *match, const size_t *slots, Py_ssize_t count, Py_ssize_t *offsets)
+{
+    Py_ssize_t more = match->place.start - match->start;
+    for (Py_ssize_t i = 0; i < 2 * (count - 1); i++)
+        offsets[i] = slots[2 + i] == HANNEDDOIS_NO_OFFSET ? -1 : (Py_ssize_t)slots[2 + i] - more;
+}
+
 /* Keeps the offsets of all groups but the whole match. Offsets in bytes are those of the slots: HANNEDDOIS_NO_OFFSET is -1 there. */
 static inline int keep_offsets(Match *match, const Haystack *haystack, const size_t *slots, Py_ssize_t count)
 {
@@ -1131,11 +1160,13 @@ static inline int keep_offsets(Match *match, const Haystack *haystack, const siz
         PyErr_NoMemory();
         return -1;
     }
-    if (haystack->has_characters)
-        count_offsets(match, haystack, slots, count, offsets);
-    else
+    if (!haystack->has_characters)
         for (Py_ssize_t i = 0; i < 2 * (count - 1); i++)
             offsets[i] = (Py_ssize_t)slots[2 + i];
+    else if (slots[1] - slots[0] == (size_t)(match->end - match->start))
+        move_offsets(match, slots, count, offsets);
+    else
+        count_offsets(match, haystack, slots, count, offsets);
     match->offsets = offsets;
     return 0;
 }
@@ -1159,8 +1190,9 @@ static int search_groups(Match *match, Haystack *haystack, size_t *slots, Py_ssi
         raise_error(&error);
     if (status != HANNEDDOIS_OK || found.pattern != (size_t)match->pattern || found.start + skipped != from)
         return 0;
-    for (Py_ssize_t i = 2; i < 2 * count; i++)
+    for (Py_ssize_t i = 1; i < 2 * count; i++)
         slots[i] += slots[i] == HANNEDDOIS_NO_OFFSET ? 0 : skipped;
+    slots[0] = start;
     return keep_offsets(match, haystack, slots, count) == 0;
 }
 

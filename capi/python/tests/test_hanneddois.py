@@ -144,6 +144,18 @@ class Searches(unittest.TestCase):
                     found = regex.find(haystack)
                     self.assertEqual(found and found.span(), wanted[0] if wanted else None)
 
+    def test_offsets_of_characters(self):
+        # Characters are counted in several bytes at once: of gaps and groups of each length, of characters of one byte up to four.
+        pattern, letters = r"<(\w*)(?:(-)|(=))(\w*)>", "aé日𝒳"
+        pieces = [one * before + "<" + two * inside + "-="[inside % 2] + one + two * 2 + ">"
+                  for one in letters for two in letters for before in range(11) for inside in range(11)]
+        regex, theirs = hanneddois.compile(pattern), re.compile(pattern)
+        for haystack in ["".join(pieces), *pieces[::31]]:
+            wanted = [match.regs for match in theirs.finditer(haystack)]
+            self.assertEqual([match.regs for match in regex.finditer(haystack)], wanted)
+            self.assertEqual(regex.search(haystack).regs, wanted[0])
+            self.assertEqual(regex.match(haystack, wanted[-1][0][0]).regs, wanted[-1])
+
     def test_str_from_each_offset(self):
         for pattern in (r"\w", r"", r"\b", r"[0-9]+", r"$", r"^"):
             regex, theirs = hanneddois.compile(pattern), re.compile(pattern)

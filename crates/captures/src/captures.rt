@@ -8,7 +8,7 @@ ghost use Rattle.search_core.specs.Utf8.{IsValidText};
 ghost use Rattle.pattern_search.specs.Searches.{span_of_match, IsOfFirstPattern};
 ghost use Rattle.pattern_search.specs.Texts.{AreReadAs};
 ghost use Rattle.meta_regex.specs.Caches.{IsCacheOf};
-ghost use Rattle.meta_regex.specs.Regexes.{HasFoundSpan, HasPattern, as_found, config_by, span_of_row};
+ghost use Rattle.meta_regex.specs.Regexes.{HasFoundSpan, HasFoundStart, HasPattern, as_found, config_by, span_of_row};
 ghost use Rattle.group_finder.specs.Slots.{no_offset, slots_of};
 ghost use Rattle.group_finder.specs.Patterns.{IsParsedAs};
 ghost use Rattle.group_finder.specs.Groups.{HasSlots};
@@ -118,7 +118,40 @@ impl Groups {
         )
     }
 
+    /// Finds the end that the toolchain's matcher finds of a match of known start. It is a call of its own, since its frame is large and few
+    /// regexes need it.
+    #[cold]
+    #[inline(never)]
+    fn find_end(
+        &mut self,
+        alloc: Global,
+        haystack: &[u8],
+        row: FoundMatch,
+    ) -> Result<Option<FoundMatch>, CapturesError>
+        ensures own { (o : Options) (texts : List (List ℕ)) → AreGroupsOf o texts self.old → AreGroupsOf o texts self.new }
+        ensures found { (o : Options) (texts : List (List ℕ)) → AreGroupsOf o texts self.old → (from : ℕ) →
+            HasFoundStart o.syntax texts haystack.now from (Some row) → IfOk result (HasFoundSpan o.syntax texts haystack.now from) }
+        ensures pattern { (o : Options) (texts : List (List ℕ)) → AreGroupsOf o texts self.old → (from : ℕ) →
+            HasFoundStart o.syntax texts haystack.now from (Some row) → IfOk result (HasPattern o.syntax texts haystack.now) }
+        ensures refused { (o : Options) (texts : List (List ℕ)) → AreGroupsOf o texts self.old → (h : List ℕ) →
+            IfErr result (IsCapturesError o h) }
+    {
+        match self.slots_at(
+            alloc,
+            haystack,
+            row.pattern,
+            row.start,
+            haystack.len(),
+            &mut [],
+        ) {
+            Ok(Some(end)) => Ok(Some(FoundMatch { end, ..row })),
+            Ok(None) => Ok(None),
+            Err(error) => Err(error),
+        }
+    }
+
     /// Searches a haystack that is UTF-8 if the options require it. The match has the end that the toolchain's matcher finds.
+    #[inline(always)]
     pub(crate) fn find(
         &mut self,
         alloc: Global,
@@ -147,16 +180,8 @@ impl Groups {
         let Some(row) = found else {
             return Ok(None);
         };
-        match self.slots_at(
-            alloc,
-            haystack,
-            row.pattern,
-            row.start,
-            haystack.len(),
-            &mut [],
-        ) {
-            Ok(Some(end)) => Ok(Some(FoundMatch { end, ..row })),
-            Ok(None) => Ok(None),
+        match self.find_end(alloc, haystack, row) {
+            Ok(found) => Ok(found),
             Err(error) => Err(error),
         }
     }
@@ -228,15 +253,23 @@ impl Groups {
         ensures cleared { IfErr result (λ _. slots.new ≡ replicate (length slots.old) no_offset) }
         ensures refused { IfErr result (IsCapturesError regex.now.options haystack.now) }
     {
-        clear(slots);
         match regex.check(haystack) {
             Ok(()) => {}
-            Err(error) => return Err(of_search(error)),
+            Err(error) => {
+                clear(slots);
+                return Err(of_search(error));
+            }
         }
         let found = match self.find(alloc, regex, cache, haystack, from) {
             Ok(Some(found)) => found,
-            Ok(None) => return Ok(None),
-            Err(error) => return Err(error),
+            Ok(None) => {
+                clear(slots);
+                return Ok(None);
+            }
+            Err(error) => {
+                clear(slots);
+                return Err(error);
+            }
         };
         match self.write_slots(alloc, haystack, found, slots) {
             Ok(()) => Ok(Some(found)),

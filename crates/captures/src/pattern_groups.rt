@@ -60,7 +60,35 @@ impl PatternGroups {
         }
     }
 
+    /// Makes the finder. It is a call of its own, since its frame is large and few searches need it.
+    #[cold]
+    #[inline(never)]
+    fn make_finder(
+        &mut self,
+        alloc: Global,
+        config: &Config,
+        size_limit: usize,
+    ) -> Result<(), NewError>
+        ensures own { (text : List ℕ) → IsPatternGroups config.now text self.old → IsPatternGroups config.now text self.new }
+        ensures made { OnOk result (is_some self.new.finder ≡ true) }
+        ensures kept { is_some self.old.finder ≡ true → is_some self.new.finder ≡ true }
+        ensures refused { (text : List ℕ) → IsPatternGroups config.now text self.old → IfErr result (IsNewError config.now text size_limit) }
+    {
+        let finder = match GroupFinder::new(
+            alloc,
+            self.text.as_str(),
+            &config.options(),
+            size_limit,
+        ) {
+            Ok(finder) => finder,
+            Err(error) => return Err(error),
+        };
+        self.finder = Some(finder);
+        Ok(())
+    }
+
     /// Makes the finder, if there is none.
+    #[inline(always)]
     pub(crate) fn prepare(
         &mut self,
         alloc: Global,
@@ -75,17 +103,10 @@ impl PatternGroups {
         if self.finder.is_some() {
             return Ok(());
         }
-        let finder = match GroupFinder::new(
-            alloc,
-            self.text.as_str(),
-            &config.options(),
-            size_limit,
-        ) {
-            Ok(finder) => finder,
-            Err(error) => return Err(error),
-        };
-        self.finder = Some(finder);
-        Ok(())
+        match self.make_finder(alloc, config, size_limit) {
+            Ok(()) => Ok(()),
+            Err(error) => Err(error),
+        }
     }
 
     /// Finds the match that the pattern has from an offset, and its slots, as [`GroupFinder::groups_at`] does.

@@ -1,5 +1,5 @@
 -- Rules that choose files: globs in the order in which they were given, of which the last one that matches decides.
-use Rattle.std.specs.Prelude.{ℕ, ◌-◌, ◌==◌, Bool, true, false, ◌&&◌, ◌||◌, not, nat_lt, List, [], ◌∷◌, length, take, drop, slice_index, Option, Some, None, if◌then◌else◌}
+use Rattle.std.specs.Prelude.{ℕ, ◌-◌, ◌==◌, Bool, true, false, ◌&&◌, ◌||◌, not, nat_lt, List, [], ◌∷◌, length, take, drop, slice_index, Option, Some, None, if◌then◌else◌, is_none}
 use Rattle.std.specs.List.{list_any}
 use Rattle.globs.specs.Matching.{Sections, is_slash, matches, matches_part, sections_of}
 use Rattle.globs.specs.Paths.{folder_name, without_end_space}
@@ -79,6 +79,10 @@ glob_syntax true = Folded
 -- The glob in an argument, without a `!` and a slash at the beginning and a slash at the end; and its first fault.
 abbrev pub glob_body : List ℕ → List ℕ
 glob_body text = without_first 47 (without_last_slash (without_first 33 text))
+
+-- The glob of a type of files has no fault.
+abbrev pub is_type_glob : List ℕ → Bool
+is_type_glob text = is_none (read Globset text).fault
 
 abbrev pub glob_fault : Bool → List ℕ → Option Fault
 glob_fault folds text = (read (glob_syntax folds) (glob_body text)).fault

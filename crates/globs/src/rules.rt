@@ -5,7 +5,7 @@ ghost use Rattle.std.specs.List.{list_any};
 ghost use Rattle.globs.specs.Matching.{is_slash, sections_of};
 ghost use Rattle.globs.specs.Reading.{read};
 ghost use Rattle.globs.specs.Ignoring.{ignore_rule};
-ghost use Rattle.globs.specs.Rules.{applies, begins, chooses, decided, ends_in_slash, excluded, folder_rule, glob_body, glob_fault, glob_rule, glob_syntax, grep_rule, rule_of, rule_with, skips, skips_by, type_rule, without_first, without_last_slash};
+ghost use Rattle.globs.specs.Rules.{applies, begins, chooses, decided, ends_in_slash, excluded, folder_rule, glob_body, glob_fault, glob_rule, glob_syntax, grep_rule, is_type_glob, rule_of, rule_with, skips, skips_by, type_rule, without_first, without_last_slash};
 ghost use Rattle.globs.specs.declared.reading.Syntax.TheVariants.{Globset};
 
 use crate::item::{Item, is_slash};
@@ -96,6 +96,14 @@ fn glob_syntax(folds: bool) -> Syntax
     } else {
         Syntax::Globset
     }
+}
+
+/// Whether a glob of a type of files has no fault.
+pub fn is_type_glob(alloc: Global, text: &[char]) -> Result<bool, AllocError>
+    ensures { IfOk result (λ is. is ≡ is_type_glob text.now) }
+{
+    let reader = read(alloc, Syntax::Globset, text)?;
+    Ok(reader.fault.is_none())
 }
 
 impl Rule {

@@ -1,3 +1,4 @@
+mod AppendLemmas
 mod BlockLemmas
 mod BoundedLemmas
 mod BoundedTreeLemmas
@@ -13,9 +14,11 @@ mod LoopLemmas
 mod MarkLemmas
 mod NeededLemmas
 mod NumberLemmas
+mod NumberedLemmas
 mod PassLemmas
 mod PreviewLemmas
 mod RegexLemmas
+mod ReplaceLemmas
 mod ReportRows
 mod ReturnLemmas
 mod RunLemmas

@@ -31,9 +31,9 @@ use Rattle.grep_core.specs.LongLines.{IsFoundSpan, Sends, WritesLines}
 use Rattle.grep_core.specs.Meant.{line_config}
 use Rattle.grep_core.specs.Patterns.{has_match_in, spans_in}
 use Rattle.grep_core.specs.Printing.{printed_match, printed_matches, shows_matches}
-use Rattle.grep_core.specs.Report.{LineMatcher}
+use Rattle.grep_core.specs.Report.{LineMatcher, shown_by, shown_line, shown_spans}
 use Rattle.grep_core.specs.Reporting.{added, added_matches, count_in_all, may_select, needs_of, needs_spans, number_of, prints_lines, shown, still_reported}
-use Rattle.grep_core.specs.Searchers.{IsMatchReported, IsSearcherOf, Sought, sized_settings}
+use Rattle.grep_core.specs.Searchers.{IsMatchReported, IsSearcherOf, Sought, found_by, sized_settings}
 use Rattle.grep_core.specs.declared.output_options.OutputOptions.{OutputOptions}
 use Rattle.grep_core.specs.declared.output_options.Print.TheVariants.{Matches}
 use Rattle.grep_core.specs.declared.patterns.PatternOptions.{PatternOptions}
@@ -43,7 +43,7 @@ use Rattle.grep_core.specs.declared.reporter.Reporter.{Reporter}
 use Rattle.grep_core.specs.declared.role.Role.TheVariants.{Selected}
 use Rattle.grep_core.proofs.BlockLemmas.{first_line, is_feed, last_line}
 use Rattle.grep_core.proofs.BoundedTreeLemmas.{ends_of, spans_of}
-use Rattle.grep_core.proofs.SeenLemmas.{all_needed, progress_by}
+use Rattle.grep_core.proofs.SeenLemmas.{progress_by}
 use Rattle.grep_core.proofs.SpanLemmas.{spans_of_matches}
 use Rattle.grep_core.proofs.TellingLemmas.{line_counted, line_told, lines_told, number_told, selects}
 use Rattle.grep_core.proofs.ToldLemmas.{is_search}
@@ -247,15 +247,23 @@ shown_alone : (w : OutputOptions) (name : Option (List ℕ)) (line : TextLine) (
     print_item w name Selected (item line found) ≡ printed_matches w name Selected line found
 shown_alone w name line found is = ap (λ p. print_as p w name Selected (item line found)) is
 
+-- without a template, a line is shown as it is
+line_as_it_is : (w : OutputOptions) (f : LineMatcher) (line : TextLine) → w.replacement ≡ None → line ≡ shown_line w f line
+line_as_it_is w f line unreplaced = ap (λ o. record line { content = (shown_by o f line.content).content }) (sym unreplaced)
+
+spans_as_they_are : (w : OutputOptions) (f : LineMatcher) (line : TextLine) → w.replacement ≡ None →
+    f.spans line.content ≡ shown_spans w f line
+spans_as_they_are w f line unreplaced = ap (λ o. (shown_by o f line.content).spans) (sym unreplaced)
+
 module _ (w : OutputOptions) (f : LineMatcher) (name : List ℕ) (with_name : Bool) where
   pub begun : (t u : Reporter) (line : TextLine) (out new : List ℕ) (lines : List TextLine) → w.print ≡ Matches → w.invert ≡ false →
-      may_select w.most t.count ≡ true → true ≡ f.has_match line.content → u.count ≡ t.count + 1 → u.matches ≡ t.matches →
+      w.replacement ≡ None → may_select w.most t.count ≡ true → true ≡ f.has_match line.content → u.count ≡ t.count + 1 → u.matches ≡ t.matches →
       ((it : Item) (flags : List Bool) (items : List Item) →
       out ++ still w (shown with_name name) t.course (true ∷ flags) (it ∷ items)
       ≡ (new ++ print_item w (shown with_name name) Selected it) ++ still w (shown with_name name) u.course flags items) →
       out ++ still_reported w f name with_name t (line ∷ lines)
       ≡ new ++ (printed_matches w (shown with_name name) Selected line (f.spans line.content) ++ still_reported w f name with_name u lines)
-  begun t u line out new lines alone plain may seen counted same goes_on =
+  begun t u line out new lines alone plain unreplaced may seen counted same goes_on =
       let it : Item = item line (f.spans line.content) in
       let after : List ℕ = new ++ print_item w (shown with_name name) Selected it in
       let number : number_of w.print u ≡ number_of w.print t + added w.print true (length (f.spans line.content)) =
@@ -264,7 +272,8 @@ module _ (w : OutputOptions) (f : LineMatcher) (name : List ℕ) (with_name : Bo
       let told = lines_told {E = Unit {0}} (Ok tt) w.print w t.course u.course true it out after (shown with_name name) (prints_alone w alone)
       (goes_on it) in
       line_told w.print w f name with_name t.course u.course t.count u.count (number_of w.print t) (number_of w.print u) true true line
-      (f.spans line.content) out after lines (selects_one w t.count plain may) seen refl counted
+      line (f.spans line.content) out after lines (selects_one w t.count plain may) seen (line_as_it_is w f line unreplaced)
+      (spans_as_they_are w f line unreplaced) counted
       (λ flags items. told name with_name (number_of w.print t) (number_of w.print u) flags items refl number)
       ∙ append_assoc new (print_item w (shown with_name name) Selected it) (still_reported w f name with_name u lines)
       ∙ ap (λ l. new ++ (l ++ still_reported w f name with_name u lines))
@@ -346,9 +355,8 @@ seen_by t s by line known =
 pub found_in : (t : Task) (s : Sought) (by : SearchesBy t s) (line : SplitLine) → t.what.now.print ≡ Matches →
     spans_in s.how by.patterns (searched s.how.crlf line) ≡ (finds_by t by).spans line
 found_in t s by line alone =
-    all_needed t.what.now by.how by.patterns line (spans_in s.how by.patterns (searched s.how.crlf line))
-    (ap (λ p. needs_of p (shows_matches t.what.now)) alone)
-    (ap (λ (h : PatternOptions). spans_in h by.patterns (searched h.crlf line)) (sym by.same))
+    ap (λ (h : PatternOptions). spans_in h by.patterns (searched h.crlf line)) (sym by.same)
+    ∙ sym (ap (λ p. if needs_of p (shows_matches t.what.now) then (found_by by).spans line else []) alone)
 
 pub read_by : (t : Task) (s : Sought) (by : SearchesBy t s) → AreReadAs (line_config s.how) s.texts by.patterns
 read_by t s by = subst (λ (h : PatternOptions). AreReadAs (line_config h) s.texts by.patterns) by.same by.are_read

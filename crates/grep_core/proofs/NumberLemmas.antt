@@ -20,10 +20,10 @@ use Rattle.grep_core.specs.Blocks.{reported_bytes, counts_lines}
 use Rattle.grep_core.specs.Candidates.{IsLineStart}
 use Rattle.grep_core.specs.ContextPrinting.{Item, item, print_as, print_item, still, waiting_item}
 use Rattle.grep_core.specs.Lines.{SplitLine, TextLine, numbered, split_lines}
-use Rattle.grep_core.specs.Printing.{column_field, column_of, fields, first_column, has_marks, if_asked, is_some_text, line_text, match_text, name_field, number_field}
+use Rattle.grep_core.specs.Printing.{column_field, column_of, fields, first_column, has_marks, if_asked, is_printed, line_text, match_text, name_field, number_field}
 use Rattle.grep_core.specs.Printing.{printed_for, printed_line, printed_match, printed_matches, printed_once, printed_with, shown_matches}
 use Rattle.grep_core.specs.Skipping.{AreWhole, MaySkip, SkipsTo, held_of, shows_numbers}
-use Rattle.grep_core.specs.Report.{LineMatcher, after_hidden, after_of, before_of, count_line, is_wanted, parting, print_lines}
+use Rattle.grep_core.specs.Report.{LineMatcher, after_hidden, after_of, before_of, count_line, is_wanted, parting, print_lines, shown_of}
 use Rattle.grep_core.specs.Selecting.{count_selected, limited, roles_from}
 use Rattle.grep_core.specs.Reporting.{flags_after, left_of, matches_in, number_of, prints_lines, reported_lines, reported_item, shown}
 use Rattle.grep_core.proofs.BlockLemmas.{is_feed}
@@ -68,7 +68,7 @@ module _ (w : OutputOptions) (name : Option (List ℕ)) (unnumbered : w.numbers 
   match_same : (role : Role) (content : SplitLine) (s : ℕ × ℕ) (i k j l : ℕ) →
       printed_match w name role (line_at i k content) s ≡ printed_match w name role (line_at j l content) s
   match_same role content s i k j l =
-      ap (λ first. if is_some_text s then first ++ match_text w name role (slice_range content.bytes s.0 s.1) else [])
+      ap (λ first. if is_printed w s then first ++ match_text w name role (slice_range content.bytes s.0 s.1) else [])
       (fields_same role (column_of w s) i (k + s.0) j (l + s.0))
 
   each_same : (role : Role) (content : SplitLine) (found : List (ℕ × ℕ)) (i k j l : ℕ) →
@@ -93,7 +93,7 @@ module _ (w : OutputOptions) (name : Option (List ℕ)) (unnumbered : w.numbers 
   item_same Nothing role content found i k j l = line_same role content found i k j l
 
   abbrev items_at : LineMatcher → ℕ → ℕ → List SplitLine → List Item
-  items_at f i k lines = map (reported_item f) (numbered i k lines)
+  items_at f i k lines = map (reported_item w f) (numbered i k lines)
 
   abbrev printed : SeparatorState → List Role → List Item → List ℕ
   printed before roles items = print_lines w (print_item w name) before roles items
@@ -106,10 +106,10 @@ module _ (w : OutputOptions) (name : Option (List ℕ)) (unnumbered : w.numbers 
   printed_same f before (Hidden ∷ roles) [] (line ∷ lines) i k j l =
       printed_same f (after_hidden before) roles [] lines (i + 1) (k + length line.bytes + 1) (j + 1) (l + length line.bytes + 1)
   printed_same f before (Selected ∷ roles) [] (line ∷ lines) i k j l =
-      ap₂ (λ first others. parting w before ++ (first ++ others)) (item_same w.print Selected line (f.spans line) i k j l)
+      ap₂ (λ first others. parting w before ++ (first ++ others)) (item_same w.print Selected (shown_of w f line).content (shown_of w f line).spans i k j l)
       (printed_same f LastPrinted roles [] lines (i + 1) (k + length line.bytes + 1) (j + 1) (l + length line.bytes + 1))
   printed_same f before (Beside ∷ roles) [] (line ∷ lines) i k j l =
-      ap₂ (λ first others. parting w before ++ (first ++ others)) (item_same w.print Beside line (f.spans line) i k j l)
+      ap₂ (λ first others. parting w before ++ (first ++ others)) (item_same w.print Beside (shown_of w f line).content (shown_of w f line).spans i k j l)
       (printed_same f LastPrinted roles [] lines (i + 1) (k + length line.bytes + 1) (j + 1) (l + length line.bytes + 1))
   printed_same f before (Hidden ∷ roles) (q ∷ front) lines i k j l =
       printed_same f (after_hidden before) roles front lines i k j l
@@ -136,15 +136,15 @@ flags_same : (w : OutputOptions) (f : LineMatcher) (n i k j l : ℕ) (lines : Li
     flags_after w f n (numbered i k lines) ≡ flags_after w f n (numbered j l lines)
 flags_same w f n i k j l lines = ap (limited (left_of w.most n)) (wanted_same w f i k j l lines)
 
-matches_same : (f : LineMatcher) (i k j l : ℕ) (flags : List Bool) (lines : List SplitLine) →
-    matches_in flags (map (reported_item f) (numbered i k lines)) ≡ matches_in flags (map (reported_item f) (numbered j l lines))
-matches_same f i k j l [] lines = refl
-matches_same f i k j l (flag ∷ flags) [] = refl
-matches_same f i k j l (true ∷ flags) (line ∷ lines) =
-    ap (λ m. length (f.spans line) + m)
-    (matches_same f (i + 1) (k + length line.bytes + 1) (j + 1) (l + length line.bytes + 1) flags lines)
-matches_same f i k j l (false ∷ flags) (line ∷ lines) =
-    matches_same f (i + 1) (k + length line.bytes + 1) (j + 1) (l + length line.bytes + 1) flags lines
+matches_same : (w : OutputOptions) (f : LineMatcher) (i k j l : ℕ) (flags : List Bool) (lines : List SplitLine) →
+    matches_in flags (map (reported_item w f) (numbered i k lines)) ≡ matches_in flags (map (reported_item w f) (numbered j l lines))
+matches_same w f i k j l [] lines = refl
+matches_same w f i k j l (flag ∷ flags) [] = refl
+matches_same w f i k j l (true ∷ flags) (line ∷ lines) =
+    ap (λ m. length ((shown_of w f line).spans) + m)
+    (matches_same w f (i + 1) (k + length line.bytes + 1) (j + 1) (l + length line.bytes + 1) flags lines)
+matches_same w f i k j l (false ∷ flags) (line ∷ lines) =
+    matches_same w f (i + 1) (k + length line.bytes + 1) (j + 1) (l + length line.bytes + 1) flags lines
 
 -- Nothing that is reported depends on the numbers and offsets if that isn't asked for.
 abbrev shows_as : Print → OutputOptions → Bool
@@ -160,15 +160,15 @@ no_offsets false offsets none = none
 
 reported_same : (print : Print) (w : OutputOptions) (f : LineMatcher) (name : List ℕ) (with_name : Bool) (c : ContextPrinter) (n : ℕ)
     (flags : List Bool) (lines : List SplitLine) (i k j l : ℕ) → shows_as print w ≡ false →
-    reported_lines print w name with_name c n flags (map (reported_item f) (numbered i k lines))
-    ≡ reported_lines print w name with_name c n flags (map (reported_item f) (numbered j l lines))
+    reported_lines print w name with_name c n flags (map (reported_item w f) (numbered i k lines))
+    ≡ reported_lines print w name with_name c n flags (map (reported_item w f) (numbered j l lines))
 reported_same Lines w f name with_name c n flags lines i k j l none =
     still_same w (shown with_name name) (no_numbers w.numbers w.offsets none) (no_offsets w.numbers w.offsets none) f c flags lines i k j l
 reported_same Matches w f name with_name c n flags lines i k j l none =
     still_same w (shown with_name name) (no_numbers w.numbers w.offsets none) (no_offsets w.numbers w.offsets none) f c flags lines i k j l
 reported_same Count w f name with_name c n flags lines i k j l none = refl
 reported_same CountMatches w f name with_name c n flags lines i k j l none =
-    ap (λ m. count_line w (shown with_name name) (n + m)) (matches_same f i k j l flags lines)
+    ap (λ m. count_line w (shown with_name name) (n + m)) (matches_same w f i k j l flags lines)
 reported_same NameIfAny w f name with_name c n flags lines i k j l none = refl
 reported_same NameIfNone w f name with_name c n flags lines i k j l none = refl
 reported_same Nothing w f name with_name c n flags lines i k j l none = refl
@@ -181,7 +181,7 @@ module _ (t : Task) (f : LineMatcher) (number place : ℕ) (c : Reporter) where
       reported_bytes t f (at i k) lines ≡ reported_bytes t f (at j l) lines
   told_same i k j l lines none =
       ap (λ flags. reported_lines t.what.now.print t.what.now t.name.now t.with_name c.course (number_of t.what.now.print c) flags
-      (map (reported_item f) (numbered i k lines)))
+      (map (reported_item t.what.now f) (numbered i k lines)))
       (flags_same t.what.now f c.count i k j l lines)
       ∙ reported_same t.what.now.print t.what.now f t.name.now t.with_name c.course (number_of t.what.now.print c)
       (flags_after t.what.now f c.count (numbered j l lines)) lines i k j l none

@@ -93,7 +93,7 @@ module _ (w : OutputOptions) (name : List ℕ) (with_name : Bool) (c d : Context
 -- ---- lines without a match aren't selected
 module _ (w : OutputOptions) (f : LineMatcher) (n : ℕ) (kept : w.invert ≡ false) where
   abbrev items : ℕ → ℕ → List SplitLine → List Item
-  items number place lines = map (reported_item f) (numbered number place lines)
+  items number place lines = map (reported_item w f) (numbered number place lines)
 
   abbrev flags : ℕ → ℕ → List SplitLine → List Bool
   flags number place lines = flags_after w f n (numbered number place lines)
@@ -102,7 +102,7 @@ module _ (w : OutputOptions) (f : LineMatcher) (n : ℕ) (kept : w.invert ≡ fa
       items number place (lines ++ more) ≡ items number place lines ++ items (number + length lines) (place + all_bytes lines) more
   items_on number place [] more = ap₂ (λ i k. items i k more) (no_more number) (no_more place)
   items_on number place (line ∷ lines) more =
-      ap (λ rest. reported_item f (record { number = number; place = place; content = line }) ∷ rest)
+      ap (λ rest. reported_item w f (record { number = number; place = place; content = line }) ∷ rest)
       (items_on (number + 1) (place + length line.bytes + 1) lines more
       ∙ ap₂ (λ i k. items (number + 1) (place + length line.bytes + 1) lines ++ items i k more)
       (more_first number (length lines)) (more_bytes place (length line.bytes) (all_bytes lines)))

@@ -1,5 +1,5 @@
 -- The definition of a report, run on a small haystack. What is expected is what GNU grep 3.8 prints for the pattern `a`.
-use Rattle.std.proofs.Common.{◌≡◌, ℕ, ◌+◌, ◌-◌, ◌==◌, Bool, true, false, List, [], ◌∷◌, ◌++◌, codes, decimal, length, replicate}
+use Rattle.std.proofs.Common.{◌≡◌, ℕ, ◌+◌, ◌-◌, ◌==◌, Bool, true, false, List, [], ◌∷◌, ◌++◌, codes, decimal, length, replicate, slice_range}
 use Rattle.std.proofs.Common.{Option, Some, None, if◌then◌else◌}
 use Rattle.std.specs.Borrow.{Bor}
 use Rattle.std.proofs.Common.{refl, rules}
@@ -10,7 +10,7 @@ use Rattle.grep_core.specs.declared.output_options.Print.TheVariants.{Lines, Mat
 use Rattle.grep_core.specs.declared.output_options.GroupSeparator.TheVariants.{Hyphens, Given, Omitted}
 use Rattle.grep_core.specs.declared.output_options.OutputOptions.{OutputOptions}
 use Rattle.grep_core.specs.Lines.{ended, searched, unended}
-use Rattle.grep_core.specs.Report.{LineMatcher, report}
+use Rattle.grep_core.specs.Report.{LineMatcher, as_it_is, report}
 
 -- each `a` is a match
 abbrev spans_from : ℕ → List ℕ → List (ℕ × ℕ)
@@ -21,8 +21,25 @@ abbrev has_a : List ℕ → Bool
 has_a [] = false
 has_a (b ∷ bs) = if b == 97 then true else has_a bs
 
+-- each `a` is replaced by these bytes, and where they are then
+abbrev with_each : List ℕ → List ℕ → List ℕ
+with_each text [] = []
+with_each text (b ∷ bs) = if b == 97 then text ++ with_each text bs else b ∷ with_each text bs
+
+abbrev written_from : ℕ → ℕ → List ℕ → List (ℕ × ℕ)
+written_from len at [] = []
+written_from len at (b ∷ bs) =
+    if b == 97 then (at, at + len) ∷ written_from len (at + len) bs else written_from len (at + 1) bs
+
 abbrev letters : LineMatcher
-letters = record { has_match = λ line. has_a line.bytes; spans = λ line. spans_from 0 line.bytes }
+letters = record {
+  has_match = λ line. has_a line.bytes;
+  spans = λ line. spans_from 0 line.bytes;
+  replaced = λ template line. record {
+    content = record { bytes = with_each template line.bytes; is_ended = line.is_ended };
+    spans = written_from (length template) 0 line.bytes;
+  };
+}
 
 -- a line, with text after it
 abbrev line : List ℕ → List ℕ → List ℕ
@@ -60,6 +77,7 @@ plain = record {
   preview = false;
   width = 0;
   groups = Hyphens;
+  replacement = None;
 }
 
 abbrev beside : ℕ → ℕ → Option Context
@@ -214,6 +232,17 @@ all_lines : report (record plain { context = Some (record { before = 0; after = 
     ≡ line (codes "a1") (line (codes "b") (line (codes "c") (line (codes "d") (line (codes "a2 a3") (line [] (line (codes "b") []))))))
 all_lines = refl
 
+-- ---- lines whose matches are replaced; what is expected is what ripgrep 13 prints
+-- -r, with any template that writes its own bytes
+replaced_lines : (given : Bor (List ℕ)) → report (record plain { replacement = Some given }) letters (codes "t") false NonePrinted text
+    ≡ line (given.now ++ codes "1") (line (given.now ++ (codes "2 " ++ (given.now ++ codes "3"))) [])
+replaced_lines given = Prim.search (rules, common_steps)
+
+-- -o -r: only what replaces the matches, each as a line, also if it is empty
+replaced_alone : (given : Bor (List ℕ)) → report (record plain { print = Matches; replacement = Some given }) letters (codes "t") false NonePrinted
+    (codes "bab") ≡ line (slice_range (98 ∷ given.now ++ codes "b") 1 (1 + length given.now)) []
+replaced_alone given = Prim.search (rules, common_steps)
+
 -- ---- lines that end with a carriage return and a line feed; what is expected is what ripgrep 13 prints with --crlf
 abbrev is_empty : List ℕ → Bool
 is_empty [] = true
@@ -221,7 +250,7 @@ is_empty (b ∷ bs) = false
 
 -- `^$`, in the bytes for which a line is searched
 abbrev empty_lines : Bool → LineMatcher
-empty_lines crlf = record { has_match = λ line. is_empty (searched crlf line); spans = λ line. (0, 0) ∷ [] }
+empty_lines crlf = record { has_match = λ line. is_empty (searched crlf line); spans = λ line. (0, 0) ∷ []; replaced = λ template line. as_it_is line [] }
 
 abbrev returns : List ℕ → List ℕ → List ℕ
 returns text rest = text ++ 13 ∷ 10 ∷ rest

@@ -1,6 +1,7 @@
 -- What is left of bytes without the carriage return at their end.
-use Rattle.std.proofs.Common.{◌≡◌, ℕ, ◌==◌, Bool, true, false, List, [], ◌∷◌, ◌++◌, length, if◌then◌else◌, refl, ap, sym, ◌∙◌, arith}
-use Rattle.grep_core.specs.Lines.{without_return}
+use Rattle.std.proofs.Common.{◌≡◌, ℕ, ◌==◌, ◌&&◌, append-nil, drop, Bool, true, false, List, [], ◌∷◌, ◌++◌, length, if◌then◌else◌, refl, ap, sym, ◌∙◌, arith}
+use Rattle.std.proofs.lemmas.List.{drop_all}
+use Rattle.grep_core.specs.Lines.{SplitLine, searched, without_return}
 
 pub none_left_out : (bytes : List ℕ) → length bytes ≡ 0 → bytes ≡ without_return bytes
 none_left_out [] none = refl
@@ -21,3 +22,21 @@ return_left_out bytes front b is e = sym (ap without_return is ∙ last_by front
 
 pub other_kept : (bytes front : List ℕ) (b : ℕ) → bytes ≡ front ++ (b ∷ []) → (b == 13) ≡ false → bytes ≡ without_return bytes
 other_kept bytes front b is e = is ∙ sym (ap without_return is ∙ last_by front b false e)
+
+-- what is searched of a line, and what is left out at its end
+left_out : (bytes : List ℕ) → without_return bytes ++ drop (length (without_return bytes)) bytes ≡ bytes
+left_out [] = refl
+left_out (b ∷ []) = by (b == 13)
+  where
+    by : (v : Bool) → (if v then [] else b ∷ []) ++ drop (length (if v then [] else b ∷ [])) (b ∷ []) ≡ b ∷ []
+    by true = refl
+    by false = refl
+left_out (b ∷ c ∷ bs) = ap (λ (t : List ℕ). b ∷ t) (left_out (c ∷ bs))
+
+pub searched_and_rest : (crlf : Bool) (line : SplitLine) → searched crlf line ++ drop (length (searched crlf line)) line.bytes ≡ line.bytes
+searched_and_rest crlf line = by (line.is_ended && crlf)
+  where
+    by : (v : Bool) → (if v then without_return line.bytes else line.bytes)
+        ++ drop (length (if v then without_return line.bytes else line.bytes)) line.bytes ≡ line.bytes
+    by true = left_out line.bytes
+    by false = ap (λ (t : List ℕ). line.bytes ++ t) (drop_all (length line.bytes) line.bytes (omega arith)) ∙ append-nil line.bytes

@@ -6,11 +6,12 @@ use Rattle.std.specs.List.{position}
 use Rattle.grep_core.specs.declared.progress.Task.{Task}
 use Rattle.grep_core.specs.Blocks.{SearchesBy, finds_by}
 use Rattle.grep_core.specs.Lines.{SplitLine, ended, split_lines}
+use Rattle.grep_core.specs.Replacing.{all_names}
 use Rattle.grep_core.specs.Skipping.{HasNoMatch}
 use Rattle.grep_core.specs.Report.{LineMatcher}
 use Rattle.grep_core.specs.Searchers.{Sought, found_by}
 use Rattle.grep_core.proofs.BlockLemmas.{is_feed, first_line}
-use Rattle.grep_core.proofs.SeenLemmas.{none_found}
+use Rattle.grep_core.proofs.SeenLemmas.{none_found, none_changed}
 
 -- lines in which nothing is found have no text of a match
 pub all_lack : (t : Task) (s : Sought) (by : SearchesBy t s) (lines : List SplitLine) →
@@ -18,7 +19,11 @@ pub all_lack : (t : Task) (s : Sought) (by : SearchesBy t s) (lines : List Split
     All (HasNoMatch (finds_by t by)) lines
 all_lack t s by lines none =
     All-weaker (λ line. (found_by by).has_match line ≡ false) (HasNoMatch (finds_by t by))
-    (λ line lacks. record { no_match = lacks; no_text = none_found t.what.now by.how by.patterns line false (sym lacks) refl }) lines none
+    (λ line lacks. record {
+      no_match = lacks;
+      no_text = none_found by.how by.names by.patterns t.what.now line lacks;
+      no_change = none_changed by.how by.names by.patterns t.what.now line lacks;
+    }) lines none
 
 -- the first of the lines that are left, and the others
 cut_lines : (block text piece : List ℕ) (done len : ℕ) → text ≡ drop done block → position is_feed text ≡ Some len →

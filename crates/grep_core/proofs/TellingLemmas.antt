@@ -14,7 +14,7 @@ use Rattle.grep_core.specs.declared.output_options.OutputOptions.{OutputOptions}
 use Rattle.grep_core.specs.ContextPrinting.{Item, item, still, print_as, print_item, waiting_item}
 use Rattle.grep_core.specs.Lines.{TextLine}
 use Rattle.grep_core.specs.Report.{LineMatcher, before_of, after_of, first_of, roles_of, parting, after_hidden, print_lines, count_line, name_line}
-use Rattle.grep_core.specs.Report.{count_matches, report_as, selected, is_wanted}
+use Rattle.grep_core.specs.Report.{count_matches, report_as, selected, is_wanted, shown_line, shown_spans}
 use Rattle.grep_core.specs.Selecting.{limited, count_selected, any, roles, roles_from}
 use Rattle.grep_core.specs.Reporting.{added, added_matches, counts_matches, matches_in, number_of, shown, reported_item, prints_lines, reported_lines, left_of, may_select, flags_after}
 
@@ -45,22 +45,22 @@ Starts w name known c = (flags : List Bool) (items : List Item) →
 starts_lines : (p : Print) (w : OutputOptions) (f : LineMatcher) (name : Option (List ℕ)) (known : SeparatorState) (c : ContextPrinter) →
     Starts w name known c →
     w.print ≡ p → (lines : List TextLine) →
-    still w name c (flags_after w f 0 lines) (map (reported_item f) lines)
-    ≡ print_lines w (λ role line. print_as p w name role (reported_item f line)) known (roles_of w (selected w f lines)) lines
+    still w name c (flags_after w f 0 lines) (map (reported_item w f) lines)
+    ≡ print_lines w (λ role line. print_as p w name role (reported_item w f line)) known (roles_of w (selected w f lines)) lines
 starts_lines p w f name known c fresh is lines =
-    fresh (flags_after w f 0 lines) (map (reported_item f) lines)
-    ∙ print_map w (print_item w name) (reported_item f) known (roles_of w (flags_after w f 0 lines)) lines
-    ∙ ap (λ flags. print_lines w (λ role line. print_item w name role (reported_item f line)) known (roles_of w flags) lines)
+    fresh (flags_after w f 0 lines) (map (reported_item w f) lines)
+    ∙ print_map w (print_item w name) (reported_item w f) known (roles_of w (flags_after w f 0 lines)) lines
+    ∙ ap (λ flags. print_lines w (λ role line. print_item w name role (reported_item w f line)) known (roles_of w flags) lines)
     (flags_none w f lines)
-    ∙ ap (λ q. print_lines w (λ role line. print_as q w name role (reported_item f line)) known (roles_of w (selected w f lines)) lines) is
+    ∙ ap (λ q. print_lines w (λ role line. print_as q w name role (reported_item w f line)) known (roles_of w (selected w f lines)) lines) is
 
-matches_mapped : (f : LineMatcher) (lines : List TextLine) (flags : List Bool) →
-    matches_in flags (map (reported_item f) lines) ≡ count_matches f lines flags
-matches_mapped f [] [] = refl
-matches_mapped f [] (flag ∷ flags) = refl
-matches_mapped f (line ∷ lines) [] = refl
-matches_mapped f (line ∷ lines) (true ∷ flags) = ap (λ n. length (f.spans line.content) + n) (matches_mapped f lines flags)
-matches_mapped f (line ∷ lines) (false ∷ flags) = matches_mapped f lines flags
+matches_mapped : (w : OutputOptions) (f : LineMatcher) (lines : List TextLine) (flags : List Bool) →
+    matches_in flags (map (reported_item w f) lines) ≡ count_matches w f lines flags
+matches_mapped w f [] [] = refl
+matches_mapped w f [] (flag ∷ flags) = refl
+matches_mapped w f (line ∷ lines) [] = refl
+matches_mapped w f (line ∷ lines) (true ∷ flags) = ap (λ n. length (shown_spans w f line) + n) (matches_mapped w f lines flags)
+matches_mapped w f (line ∷ lines) (false ∷ flags) = matches_mapped w f lines flags
 
 -- nothing is counted yet
 pub none_yet : (b : Bool) → ◌≡◌ {A = ℕ} (if b then 0 else 0) 0
@@ -70,7 +70,7 @@ none_yet false = refl
 pub starts_told : (p : Print) (w : OutputOptions) (f : LineMatcher) (name : List ℕ) (with_name : Bool) (known : SeparatorState) (c :
     ContextPrinter) →
     Starts w (shown with_name name) known c → w.print ≡ p → (lines : List TextLine) →
-    reported_lines p w name with_name c 0 (flags_after w f 0 lines) (map (reported_item f) lines)
+    reported_lines p w name with_name c 0 (flags_after w f 0 lines) (map (reported_item w f) lines)
     ≡ report_as p w f name with_name known lines (selected w f lines)
 starts_told Lines w f name with_name known c fresh is lines = starts_lines Lines w f (shown with_name name) known c fresh is lines
 starts_told Matches w f name with_name known c fresh is lines = starts_lines Matches w f (shown with_name name) known c fresh is lines
@@ -78,9 +78,9 @@ starts_told Count w f name with_name known c fresh is lines =
     ap (count_line w (shown with_name name)) (none_before (count_selected (flags_after w f 0 lines))
     ∙ ap count_selected (flags_none w f lines))
 starts_told CountMatches w f name with_name known c fresh is lines =
-    ap (count_line w (shown with_name name)) (none_before (matches_in (flags_after w f 0 lines) (map (reported_item f) lines))
-    ∙ ap (λ flags. matches_in flags (map (reported_item f) lines)) (flags_none w f lines)
-    ∙ matches_mapped f lines (selected w f lines))
+    ap (count_line w (shown with_name name)) (none_before (matches_in (flags_after w f 0 lines) (map (reported_item w f) lines))
+    ∙ ap (λ flags. matches_in flags (map (reported_item w f) lines)) (flags_none w f lines)
+    ∙ matches_mapped w f lines (selected w f lines))
 starts_told NameIfAny w f name with_name known c fresh is lines =
     ap (λ n. if nat_lt 0 n then name_line w name else []) (none_before (count_selected (flags_after w f 0 lines))
     ∙ ap count_selected (flags_none w f lines))
@@ -141,20 +141,20 @@ flags_step w f n m sel has line lines is seen more =
 
 pub line_told : (p : Print) (w : OutputOptions) (f : LineMatcher) (name : List ℕ) (with_name : Bool) (c after : ContextPrinter) (n m k l : ℕ)
     (sel has : Bool)
-    (line : TextLine)
-    (found : List (ℕ × ℕ)) (out new : List ℕ) (lines : List TextLine) → sel ≡ selects w n has → has ≡ f.has_match line.content →
-    found ≡ f.spans line.content →
+    (line own : TextLine)
+    (found : List (ℕ × ℕ)) (out new : List ℕ) (lines : List TextLine) → sel ≡ selects w n has → has ≡ f.has_match own.content →
+    line ≡ shown_line w f own → found ≡ shown_spans w f own →
     m ≡ n + (if sel then 1 else 0) →
     ((flags : List Bool) (items : List Item) →
     out ++ reported_lines p w name with_name c k (sel ∷ flags) (item line found ∷ items) ≡
     new ++ reported_lines p w name with_name after l flags items)
     →
-    out ++ reported_lines p w name with_name c k (flags_after w f n (line ∷ lines)) (map (reported_item f) (line ∷ lines))
-    ≡ new ++ reported_lines p w name with_name after l (flags_after w f m lines) (map (reported_item f) lines)
-line_told p w f name with_name c after n m k l sel has line found out new lines is seen spans more goes_on =
-    ap₂ (λ flags fs. out ++ reported_lines p w name with_name c k flags (item line fs ∷ map (reported_item f) lines))
-    (flags_step w f n m sel has line lines is seen more) (sym spans)
-    ∙ goes_on (flags_after w f m lines) (map (reported_item f) lines)
+    out ++ reported_lines p w name with_name c k (flags_after w f n (own ∷ lines)) (map (reported_item w f) (own ∷ lines))
+    ≡ new ++ reported_lines p w name with_name after l (flags_after w f m lines) (map (reported_item w f) lines)
+line_told p w f name with_name c after n m k l sel has line own found out new lines is seen shows spans more goes_on =
+    ap₂ (λ flags it. out ++ reported_lines p w name with_name c k flags (it ∷ map (reported_item w f) lines))
+    (flags_step w f n m sel has own lines is seen more) (sym (ap₂ item shows spans))
+    ∙ goes_on (flags_after w f m lines) (map (reported_item w f) lines)
 
 one_counted : (sel : Bool) (n : ℕ) (flags : List Bool) →
     (n + (if sel then 1 else 0)) + count_selected flags ≡ n + count_selected (sel ∷ flags)
@@ -273,25 +273,25 @@ module _ (w : OutputOptions) (f : LineMatcher) (name : List ℕ) (with_name : Bo
   over_counted lines = ap (λ k. n + k) (none_more lines ∙ sym (none_more []))
 
   over_lines : c.left ≡ 0 → (lines : List TextLine) →
-      still w (shown with_name name) c (flags_after w f n lines) (map (reported_item f) lines)
+      still w (shown with_name name) c (flags_after w f n lines) (map (reported_item w f) lines)
       ≡ still w (shown with_name name) c (flags_after w f n []) []
   over_lines left lines =
-      ap (λ flags. still w (shown with_name name) c flags (map (reported_item f) lines)) (none lines)
-      ∙ still_none w (shown with_name name) c left (map (is_wanted w f) lines) (map (reported_item f) lines)
+      ap (λ flags. still w (shown with_name name) c flags (map (reported_item w f) lines)) (none lines)
+      ∙ still_none w (shown with_name name) c left (map (is_wanted w f) lines) (map (reported_item w f) lines)
       ∙ sym (ap (λ flags. still w (shown with_name name) c flags []) (none []) ∙ still_none w (shown with_name name) c left [] [])
 
   over_number : (k : ℕ) (lines : List TextLine) → k + count_selected (flags_after w f n lines) ≡ k + count_selected (flags_after w f n [])
   over_number k lines = ap (λ m. k + m) (none_more lines ∙ sym (none_more []))
 
   over_matches : (lines : List TextLine) →
-      matches_in (flags_after w f n lines) (map (reported_item f) lines) ≡ matches_in (flags_after w f n []) []
+      matches_in (flags_after w f n lines) (map (reported_item w f) lines) ≡ matches_in (flags_after w f n []) []
   over_matches lines =
-      ap (λ flags. matches_in flags (map (reported_item f) lines)) (none lines)
-      ∙ none_matched (map (is_wanted w f) lines) (map (reported_item f) lines)
+      ap (λ flags. matches_in flags (map (reported_item w f) lines)) (none lines)
+      ∙ none_matched (map (is_wanted w f) lines) (map (reported_item w f) lines)
       ∙ sym (no_items (flags_after w f n []))
 
   pub over_told : (k : ℕ) (p : Print) → (prints_lines p ≡ true → c.left ≡ 0) → (lines : List TextLine) →
-      reported_lines p w name with_name c k (flags_after w f n lines) (map (reported_item f) lines)
+      reported_lines p w name with_name c k (flags_after w f n lines) (map (reported_item w f) lines)
       ≡ reported_lines p w name with_name c k (flags_after w f n []) []
   over_told k Lines left lines = over_lines (left refl) lines
   over_told k Matches left lines = over_lines (left refl) lines

@@ -1,10 +1,11 @@
 -- What is still to be printed for an input after some of its lines, and how a task advances over some bytes.
-use Rattle.std.specs.Prelude.{◌≡◌, ℕ, List, [], ◌++◌, Option, Some, take}
+use Rattle.std.specs.Prelude.{◌≡◌, ℕ, List, [], ◌++◌, Option, Some, None, Vec, take}
+use Rattle.std.specs.declared.alloc.Global.{Global}
 use Rattle.std.specs.Io.KnownBytes.{Appends}
 use Rattle.grep_core.specs.declared.progress.Progress.{Progress}
 use Rattle.grep_core.specs.declared.progress.Task.{Task}
 use Rattle.grep_core.specs.Lines.{SplitLine, TextLine, numbered, split_lines}
-use Rattle.grep_core.specs.Report.{LineMatcher, counted_as}
+use Rattle.grep_core.specs.Report.{LineMatcher, ShownLine, as_it_is, counted_as}
 use Rattle.grep_core.specs.Searchers.{Sought, SearchesFor, found_by}
 use Rattle.grep_core.specs.Reporting.{needs_spans, with_needed_spans, still_reported, count_in_all}
 
@@ -52,3 +53,13 @@ pub record IsOver (t : Task) (p : Progress) : Type 0 where
   pub printed : (f : LineMatcher) (lines : List SplitLine) → reported_bytes t f p lines ≡ reported_bytes t f p []
   pub counted : (f : LineMatcher) (lines : List SplitLine) →
       counted_as t.what.now.print (counts_lines t f p lines) ≡ counted_as t.what.now.print (counts_lines t f p [])
+
+-- ---- what is seen of a line
+-- The bytes of a line as it is shown: other ones if there are some, and else its own.
+abbrev pub bytes_or : Option (Vec ℕ Global) → List ℕ → List ℕ
+bytes_or None bytes = bytes
+bytes_or (Some other) bytes = other.items
+
+-- A line with such bytes, and with these spans.
+abbrev pub seen_line : Option (Vec ℕ Global) → List (ℕ × ℕ) → SplitLine → ShownLine
+seen_line replaced found line = as_it_is (record line { bytes = bytes_or replaced line.bytes }) found

@@ -19,7 +19,7 @@ use Rattle.grep_core.specs.Meant.{line_config}
 use Rattle.grep_core.specs.declared.candidates.Reached.{Reached}
 use Rattle.grep_core.specs.declared.patterns.PatternOptions.{PatternOptions}
 use Rattle.grep_core.specs.Lines.{ended, searched, split_lines}
-use Rattle.grep_core.specs.Patterns.{finds_of}
+use Rattle.grep_core.specs.Patterns.{has_match_in}
 use Rattle.grep_core.specs.Searchers.{IsMatchReported, line_settings, sized_settings}
 
 -- What searches blocks: a regex, whether the tree of the patterns is searched for as it is, whether it consumes no line feed, and whether a
@@ -54,7 +54,7 @@ IsLineStart text at = 0 < at → slice_get text (at - 1) ≡ Some 10
 -- No line of the haystack has a match of the patterns as they are parsed.
 abbrev pub HaveNoMatch : PatternOptions → List (List ℕ) → List ℕ → Type 0
 HaveNoMatch how texts text =
-    (res : List Re) → AreReadAs (line_config how) texts res → All (λ line. (finds_of how res).has_match line ≡ false) (split_lines text)
+    (res : List Re) → AreReadAs (line_config how) texts res → All (λ line. has_match_in how res (searched how.crlf line) ≡ false) (split_lines text)
 
 -- If a line feed ends the line that starts at this offset, then the line has a match.
 abbrev pub HasMatchAt : PatternOptions → List (List ℕ) → List ℕ → ℕ → Type 0

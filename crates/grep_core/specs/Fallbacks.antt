@@ -1,5 +1,6 @@
 -- One program of the toolchain for all patterns, and the spans that it finds one after the other.
-use Rattle.std.specs.Prelude.{◌≡◌, ℕ, zero, suc, ◌+◌, ◌≤◌, ◌==◌, List, [], ◌∷◌, Option, Some, None, option_map, chars, IsSomeAnd, ⊤}
+use Rattle.std.specs.Prelude.{◌≡◌, ℕ, zero, suc, ◌+◌, ◌≤◌, ◌==◌, List, [], ◌∷◌, Option, Some, None, option_map, chars, Box, IsSomeAnd, ⊤}
+use Rattle.std.specs.declared.alloc.Global.{Global}
 use Rattle.std.specs.Prelude.{if◌then◌else◌}
 use Rattle.regex_hir.specs.Re.{Re}
 use Rattle.regex_hir.specs.Find.{find}
@@ -31,6 +32,12 @@ AreTreesOfPatterns how _ _ = ⊥
 -- The program searches for what the patterns are parsed as.
 abbrev pub IsProgramOf : PatternOptions → List (List ℕ) → Program → Type 0
 IsProgramOf how texts p = (res : List Re) → AreReadAs (line_config how) texts res → SameCaptures (pattern_of p) (line_pattern how res)
+
+-- Each program searches for what the pattern with its number is parsed as.
+abbrev pub AreProgramsOf : PatternOptions → List (List ℕ) → List (Box Program Global) → Type 0
+AreProgramsOf how [] [] = ⊤
+AreProgramsOf how (t ∷ ts) (p ∷ ps) = IsProgramOf how (t ∷ []) p.value × AreProgramsOf how ts ps
+AreProgramsOf how _ _ = ⊥
 
 -- The span of the match from an offset on.
 abbrev pub found_at : Re → List ℕ → ℕ → Option (ℕ × ℕ)

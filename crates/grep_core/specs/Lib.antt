@@ -3,6 +3,7 @@ pub mod Selecting
 pub mod Colors
 pub mod Printing
 pub mod Report
+pub mod Replacing
 pub mod Patterns
 pub mod Searchers
 pub mod ContextPrinting
@@ -11,6 +12,7 @@ pub mod Headings
 pub mod Blocks
 pub mod Skipping
 pub mod Fallbacks
+pub mod Groups
 pub mod Meant
 pub mod Bounded
 pub mod Joined

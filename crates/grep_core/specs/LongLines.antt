@@ -1,5 +1,5 @@
 -- What is found in a line from an offset on, and what is written of a line while its matches are searched for.
-use Rattle.std.specs.Prelude.{◌≡◌, ℕ, true, false, List, ◌++◌, Option}
+use Rattle.std.specs.Prelude.{◌≡◌, ℕ, true, false, List, ◌++◌, Option, None}
 use Rattle.std.specs.Io.KnownBytes.{Appends}
 use Rattle.regex_hir.specs.Re.{Re}
 use Rattle.pattern_search.specs.Texts.{AreReadAs}
@@ -28,11 +28,12 @@ IsNextSpan how texts line end reported = (res : List Re) → AreReadAs (line_con
     reported ≡ next_after (found_at (line_pattern how res) line) end
 
 -- The matches of a line that has one can be printed one after the other, if n lines were selected before it: it is selected, and its
--- matches are printed alone.
+-- matches are printed alone and as they are.
 pub record MayWriteMatches (s : Sought) (w : OutputOptions) (n : ℕ) : Type 0 where
   pub spans : s.spans ≡ true
   pub matches : w.print ≡ Matches
   pub plain : w.invert ≡ false
+  pub unreplaced : w.replacement ≡ None
   pub may : may_select w.most n ≡ true
 
 -- A beginning of some bytes was written, and the rest of them is still to be written.

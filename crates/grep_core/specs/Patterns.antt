@@ -3,9 +3,11 @@
 use Rattle.std.specs.Prelude.{ℕ, Bool, List, map, is_some}
 use Rattle.regex_hir.specs.Re.{Re}
 use Rattle.regex_hir.specs.Find.{find, find_all}
+use Rattle.regex_syntax.specs.Grammar.{Names}
 use Rattle.pattern_search.specs.Searches.{span_of_match}
 use Rattle.grep_core.specs.Bounded.{line_pattern}
 use Rattle.grep_core.specs.Lines.{searched}
+use Rattle.grep_core.specs.Replacing.{replaced_line}
 use Rattle.grep_core.specs.Report.{LineMatcher}
 use Rattle.grep_core.specs.declared.patterns.PatternOptions.{PatternOptions}
 
@@ -18,9 +20,10 @@ abbrev pub spans_in : PatternOptions → List Re → List ℕ → List (ℕ × �
 spans_in how res bytes = map span_of_match (find_all (line_pattern how res) bytes)
 
 -- The matcher of these patterns. It searches the bytes that `searched` gives for a line. So with `crlf` they don't include a carriage
--- return right before the line feed.
-abbrev pub finds_of : PatternOptions → List Re → LineMatcher
-finds_of how res = record {
+-- return right before the line feed. The groups of each pattern have the names in the list at its number.
+abbrev pub finds_of : PatternOptions → List Names → List Re → LineMatcher
+finds_of how names res = record {
   has_match = λ line. has_match_in how res (searched how.crlf line);
   spans = λ line. spans_in how res (searched how.crlf line);
+  replaced = λ template line. replaced_line how names res template line;
 }

@@ -82,7 +82,7 @@ has_marks w _ = w.invert
 
 -- Whether the output for a line depends on the matches in it.
 abbrev pub shows_matches : OutputOptions → Bool
-shows_matches w = is_some w.color || w.columns || w.each_match
+shows_matches w = is_some w.color || w.columns || w.each_match || is_some w.replacement
 
 -- The matches that are shown in a line of this role that has these.
 abbrev pub shown_matches : OutputOptions → Role → List (ℕ × ℕ) → List (ℕ × ℕ)
@@ -219,10 +219,15 @@ match_text w name role text =
     if exceeds w.most_bytes (length text) then long_match w name role text
     else tab w name (trimmed w text) ++ (match_bytes w role (trimmed w text) ++ 10 ∷ [])
 
--- A match in a line of this role, printed as a line of its own, unless it is empty.
+-- Whether a match, or what replaces it, is printed as a line of its own. An empty match isn't, but what replaces a match is, even if it is
+-- empty.
+abbrev pub is_printed : OutputOptions → ℕ × ℕ → Bool
+is_printed w s = is_some_text s || is_some w.replacement
+
+-- A match in a line of this role, printed as a line of its own.
 abbrev pub printed_match : OutputOptions → Option (List ℕ) → Role → TextLine → ℕ × ℕ → List ℕ
 printed_match w name role line s =
-    if is_some_text s
+    if is_printed w s
     then fields w name role line.number (column_of w s) (line.place + s.0)
     ++ match_text w name role (slice_range line.content.bytes s.0 s.1)
     else []

@@ -1,5 +1,6 @@
 -- What is printed for an input, for any choice of wanted lines and any spans as the matches of a line.
 use Rattle.std.specs.Prelude.{ℕ, ◌+◌, Bool, true, false, not, nat_lt, length, List, [], ◌∷◌, ◌++◌, map, decimal, codes, Option, Some, None, is_some, if◌then◌else◌}
+use Rattle.std.specs.Borrow.{Bor}
 use Rattle.grep_core.specs.declared.output_options.Context.{Context}
 use Rattle.grep_core.specs.declared.output_options.Print.TheVariants.{Lines, Matches, Count, CountMatches, NameIfAny, NameIfNone, Nothing}
 use Rattle.grep_core.specs.declared.output_options.Print.{Print}
@@ -14,10 +15,36 @@ use Rattle.grep_core.specs.Colors.{coloured}
 use Rattle.grep_core.specs.declared.colors.Part.TheVariants.{Separator}
 use Rattle.grep_core.specs.Printing.{printed_line, printed_matches, group_line, name_before}
 
--- What a matcher reports about a line: whether it has a match, and the spans of all its matches, from left to right.
+-- What is shown of a line: bytes, and the spans in them of its matches, or of what replaces these, from left to right.
+pub record ShownLine : Type 0 where
+  pub content : SplitLine
+  pub spans : List (ℕ × ℕ)
+
+-- A line that is shown as it is, with these matches.
+abbrev pub as_it_is : SplitLine → List (ℕ × ℕ) → ShownLine
+as_it_is line found = record { content = line; spans = found }
+
+-- What a matcher reports about a line: whether it has a match, the spans of all its matches, from left to right, and what is shown of the
+-- line if the template of these bytes replaces them.
 pub record LineMatcher : Type 0 where
   pub has_match : SplitLine → Bool
   pub spans : SplitLine → List (ℕ × ℕ)
+  pub replaced : List ℕ → SplitLine → ShownLine
+
+-- What is shown of a line: the line itself, or if there is a template, the line with its matches replaced.
+abbrev pub shown_by : Option (Bor (List ℕ)) → LineMatcher → SplitLine → ShownLine
+shown_by None f line = as_it_is line (f.spans line)
+shown_by (Some template) f line = f.replaced template.now line
+
+abbrev pub shown_of : OutputOptions → LineMatcher → SplitLine → ShownLine
+shown_of w f line = shown_by w.replacement f line
+
+-- A line as it is shown. Its number and its offset are those that it has in the input.
+abbrev pub shown_line : OutputOptions → LineMatcher → TextLine → TextLine
+shown_line w f line = record line { content = (shown_of w f line.content).content }
+
+abbrev pub shown_spans : OutputOptions → LineMatcher → TextLine → List (ℕ × ℕ)
+shown_spans w f line = (shown_of w f line.content).spans
 
 abbrev pub is_wanted : OutputOptions → LineMatcher → TextLine → Bool
 is_wanted w f line = if w.invert then not (f.has_match line.content) else f.has_match line.content
@@ -68,11 +95,11 @@ count_line w None n = decimal n ++ 10 ∷ []
 count_line w (Some name) n = name_before w name (coloured w.color Separator (codes ":")) ++ (decimal n ++ 10 ∷ [])
 
 -- How many matches the selected lines have.
-abbrev pub count_matches : LineMatcher → List TextLine → List Bool → ℕ
-count_matches f [] wanted = 0
-count_matches f (line ∷ lines) [] = 0
-count_matches f (line ∷ lines) (true ∷ wanted) = length (f.spans line.content) + count_matches f lines wanted
-count_matches f (line ∷ lines) (false ∷ wanted) = count_matches f lines wanted
+abbrev pub count_matches : OutputOptions → LineMatcher → List TextLine → List Bool → ℕ
+count_matches w f [] wanted = 0
+count_matches w f (line ∷ lines) [] = 0
+count_matches w f (line ∷ lines) (true ∷ wanted) = length (shown_spans w f line) + count_matches w f lines wanted
+count_matches w f (line ∷ lines) (false ∷ wanted) = count_matches w f lines wanted
 
 abbrev pub name_line : OutputOptions → List ℕ → List ℕ
 name_line w name = name_before w name (10 ∷ [])
@@ -81,14 +108,14 @@ name_line w name = name_before w name (10 ∷ [])
 -- input is what is known of the lines of earlier inputs.
 abbrev pub report_as : Print → OutputOptions → LineMatcher → List ℕ → Bool → SeparatorState → List TextLine → List Bool → List ℕ
 report_as Lines w f name with_name known lines wanted =
-    print_lines w (λ role line. printed_line w (if with_name then Some name else None) role line (f.spans line.content)) known
+    print_lines w (λ role line. printed_line w (if with_name then Some name else None) role (shown_line w f line) (shown_spans w f line)) known
     (roles_of w wanted) lines
 report_as Matches w f name with_name known lines wanted =
-    print_lines w (λ role line. printed_matches w (if with_name then Some name else None) role line (f.spans line.content)) known
+    print_lines w (λ role line. printed_matches w (if with_name then Some name else None) role (shown_line w f line) (shown_spans w f line)) known
     (roles_of w wanted) lines
 report_as Count w f name with_name known lines wanted = count_line w (if with_name then Some name else None) (count_selected wanted)
 report_as CountMatches w f name with_name known lines wanted =
-    count_line w (if with_name then Some name else None) (count_matches f lines wanted)
+    count_line w (if with_name then Some name else None) (count_matches w f lines wanted)
 report_as NameIfAny w f name with_name known lines wanted = if nat_lt 0 (count_selected wanted) then name_line w name else []
 report_as NameIfNone w f name with_name known lines wanted = if nat_lt 0 (count_selected wanted) then [] else name_line w name
 report_as Nothing w f name with_name known lines wanted = []

@@ -1,5 +1,5 @@
 -- What is still to be printed for an input, after its first lines.
-use Rattle.std.specs.Prelude.{ℕ, ◌+◌, ◌-◌, Bool, true, false, ◌&&◌, nat_lt, length, List, [], ◌∷◌, map, Option, Some, None, option_map, if◌then◌else◌}
+use Rattle.std.specs.Prelude.{ℕ, ◌+◌, ◌-◌, Bool, true, false, ◌&&◌, nat_lt, length, List, [], ◌∷◌, map, Option, Some, None, option_map, is_some, not, if◌then◌else◌}
 use Rattle.grep_core.specs.declared.context_printer.ContextPrinter.{ContextPrinter}
 use Rattle.grep_core.specs.declared.reporter.Reporter.{Reporter}
 use Rattle.grep_core.specs.declared.output_options.Print.{Print}
@@ -8,16 +8,16 @@ use Rattle.grep_core.specs.declared.output_options.OutputOptions.{OutputOptions}
 use Rattle.grep_core.specs.ContextPrinting.{Item, item, still}
 use Rattle.grep_core.specs.Lines.{TextLine}
 use Rattle.grep_core.specs.Printing.{shows_matches}
-use Rattle.grep_core.specs.Report.{LineMatcher, is_wanted, count_line, name_line}
+use Rattle.grep_core.specs.Report.{LineMatcher, as_it_is, is_wanted, count_line, name_line, shown_line, shown_spans}
 use Rattle.grep_core.specs.Selecting.{limited, count_selected}
 
 -- The name that is printed before lines, if any.
 abbrev pub shown : Bool → List ℕ → Option (List ℕ)
 shown with_name name = if with_name then Some name else None
 
--- A line with its matches.
-abbrev pub reported_item : LineMatcher → TextLine → Item
-reported_item f line = item line (f.spans line.content)
+-- A line as it is shown, with what is marked in it.
+abbrev pub reported_item : OutputOptions → LineMatcher → TextLine → Item
+reported_item w f line = item (shown_line w f line) (shown_spans w f line)
 
 -- Whether the output consists of lines or of the matches in them.
 abbrev pub prints_lines : Print → Bool
@@ -83,7 +83,7 @@ added_matches print sel n = if counts_matches print && sel then n else 0
 
 abbrev pub still_reported : OutputOptions → LineMatcher → List ℕ → Bool → Reporter → List TextLine → List ℕ
 still_reported w f name with_name t lines = reported_lines w.print w name with_name t.course (number_of w.print t) (flags_after w f t.count lines)
-    (map (reported_item f) lines)
+    (map (reported_item w f) lines)
 
 -- How many lines are selected in all.
 abbrev pub count_in_all : OutputOptions → LineMatcher → Reporter → List TextLine → ℕ
@@ -99,9 +99,17 @@ needs_of NameIfAny shows = false
 needs_of NameIfNone shows = false
 needs_of Nothing shows = false
 
-abbrev pub needs_spans : OutputOptions → Bool
-needs_spans w = needs_of w.print (shows_matches w)
+-- Whether the output depends on what is shown of lines, besides their bytes.
+abbrev pub needs_shown : OutputOptions → Bool
+needs_shown w = needs_of w.print (shows_matches w)
 
--- A matcher that agrees on which lines have a match, and reports spans only if the output depends on them.
+-- Whether it depends on the spans of matches. What replaces matches is found without these.
+abbrev pub needs_spans : OutputOptions → Bool
+needs_spans w = needs_shown w && not (is_some w.replacement)
+
+-- A matcher that agrees on which lines have a match, and reports what else is shown only if the output depends on it.
 abbrev pub with_needed_spans : OutputOptions → LineMatcher → LineMatcher
-with_needed_spans w f = record f { spans = λ line. if needs_spans w then f.spans line else [] }
+with_needed_spans w f = record f {
+  spans = λ line. if needs_shown w then f.spans line else [];
+  replaced = λ template line. if needs_shown w then f.replaced template line else as_it_is line [];
+}

@@ -1,6 +1,7 @@
 -- What a line searcher is built from, and what it reports about a line.
 use Rattle.std.specs.Prelude.{◌≡◌, ◌⊎◌, ℕ, Bool, true, false, List, [], ◌∷◌, Option, Some, Err}
 use Rattle.regex_hir.specs.Re.{Re}
+use Rattle.regex_syntax.specs.Grammar.{Names}
 use Rattle.hir_core.specs.Tree.{Tree}
 use Rattle.lazy_dfa.specs.declared.build_error.BuildError.TheVariants.{NoMemory}
 use Rattle.search_types.specs.declared.match_error.MatchErrorKind.{MatchErrorKind}
@@ -19,6 +20,7 @@ use Rattle.grep_core.specs.declared.searcher.SearcherError.{SearcherError}
 use Rattle.grep_core.specs.declared.searcher.SearcherError.TheVariants.{Text, EmptyLoop, Build}
 use Rattle.grep_core.specs.Report.{LineMatcher}
 use Rattle.grep_core.specs.Patterns.{finds_of, has_match_in, spans_in}
+use Rattle.grep_core.specs.Replacing.{all_names, replaced_spans, replaced_text}
 
 -- The settings for searching lines, which may be any bytes.
 abbrev pub line_settings : Settings
@@ -49,6 +51,11 @@ IsMatchReported how texts line reported = (res : List Re) → AreReadAs (line_co
 abbrev pub AreReported : PatternOptions → List (List ℕ) → List ℕ → List (ℕ × ℕ) → Type 0
 AreReported how texts line reported = (res : List Re) → AreReadAs (line_config how) texts res → reported ≡ spans_in how res line
 
+-- The line was replaced by these bytes, and what was written for its matches has these spans, for the patterns as they are parsed.
+pub record AreReplaced (how : PatternOptions) (texts : List (List ℕ)) (template line bytes : List ℕ) (spans : List (ℕ × ℕ)) : Type 0 where
+  pub bytes_are : (res : List Re) → AreReadAs (line_config how) texts res → bytes ≡ replaced_text how (all_names how texts) res template line
+  pub spans_are : (res : List Re) → AreReadAs (line_config how) texts res → spans ≡ replaced_spans how (all_names how texts) res template line
+
 -- Why a search of the line fails. Either memory ran out, or the error is that of a search by the regex from some offset of the line.
 abbrev pub IsLineError : Pair → List ℕ → MatchErrorKind → Type 0
 IsLineError p line e = (e ≡ LacksMemory) ⊎ ((at : ℕ) × (c : PairCache) × AnswersPair p c (whole_search line at) (Err e))
@@ -59,16 +66,19 @@ pub record Sought : Type 0 where
   pub texts : List (List ℕ)
   pub spans : Bool
 
--- The search finds in lines what the patterns match as they are parsed. It is asked for matches only if it may be.
+-- The search finds in lines what the patterns match as they are parsed. It is asked for matches only if it may be. The groups of the patterns
+-- have these names.
 pub record SearchesFor (s : Sought) (spans : Bool) : Type 0 where
   pub may : spans ≡ true → s.spans ≡ true
   pub how : PatternOptions
   pub same : how ≡ s.how
   pub patterns : List Re
   pub are_read : AreReadAs (line_config how) s.texts patterns
+  pub names : List Names
+  pub named : names ≡ all_names how s.texts
 
 abbrev pub found_by : {s : Sought} {spans : Bool} → SearchesFor s spans → LineMatcher
-found_by by = finds_of by.how by.patterns
+found_by by = finds_of by.how by.names by.patterns
 
 -- Why no searcher is built from patterns. With `Text`, this is the first pattern that can't be parsed. With `EmptyLoop`, matches are asked
 -- for, and this is the first pattern with an empty loop. With `Build`, no regex can be built from the one tree of the patterns, or memory

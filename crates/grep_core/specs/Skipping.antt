@@ -6,17 +6,18 @@ use Rattle.grep_core.specs.declared.context_printer.ContextPrinter.{ContextPrint
 use Rattle.grep_core.specs.declared.output_options.OutputOptions.{OutputOptions}
 use Rattle.grep_core.specs.Blocks.{reported_bytes, counts_lines}
 use Rattle.grep_core.specs.Lines.{SplitLine, split_lines}
-use Rattle.grep_core.specs.Report.{LineMatcher, before_of}
+use Rattle.grep_core.specs.Report.{LineMatcher, as_it_is, before_of}
 use Rattle.grep_core.specs.Reporting.{prints_lines}
 
 -- Bytes that are whole lines: they are empty or end with a line feed.
 abbrev pub AreWhole : List ℕ → Type 0
 AreWhole text = (text ≡ []) ⊎ ((first : List ℕ) × (text ≡ first ++ 10 ∷ []))
 
--- A line has no match, and no span.
+-- A line has no match, and no span. No template changes it.
 pub record HasNoMatch (f : LineMatcher) (line : SplitLine) : Type 0 where
   pub no_match : f.has_match line ≡ false
   pub no_text : f.spans line ≡ []
+  pub no_change : (template : List ℕ) → f.replaced template line ≡ as_it_is line []
 
 -- At this point, a line without a match is neither selected nor owed as context to a selected one.
 pub record MaySkip (w : OutputOptions) (c : ContextPrinter) : Type 0 where

@@ -13,7 +13,7 @@ use crate::fault::Fault;
 use crate::feeds::feed_at;
 use crate::finder::Finder;
 use crate::line::Line;
-use crate::looking::look_at;
+use crate::looking::{look_at, shown_bytes};
 use crate::passing::skip_lines;
 use crate::progress::{Progress, Task, pass};
 use crate::reporter::report_line;
@@ -43,14 +43,17 @@ pub(crate) fn report_one(
         counts_lines task.entry (finds_by task.entry by) progress.new lines ≡
         counts_lines task.entry (finds_by task.entry by) progress.old (record { bytes = bytes.now; is_ended = is_ended } ∷ lines)) }
 {
-    let seen = look_at(alloc, finder, task.what, bytes, is_ended, is_known)?;
+    let seen = match look_at(alloc, finder, task.what, bytes, is_ended, is_known) {
+        Ok(seen) => seen,
+        Err(e) => return Err(e),
+    };
     let line = Line {
         number: progress.number,
         place: progress.place,
-        bytes,
+        bytes: shown_bytes(&seen.replaced, bytes),
         is_ended,
     };
-    report_line(
+    match report_line(
         alloc,
         out,
         task.what,
@@ -60,8 +63,14 @@ pub(crate) fn report_one(
         line,
         seen.has,
         &seen.found,
-    )?;
-    pass(progress, bytes.len())
+    ) {
+        Ok(()) => {}
+        Err(e) => return Err(e),
+    }
+    match pass(progress, bytes.len()) {
+        Ok(()) => Ok(()),
+        Err(e) => Err(e),
+    }
 }
 
 /// The length in bytes of the whole lines at the start of a block.

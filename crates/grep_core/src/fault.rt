@@ -13,7 +13,7 @@ pub enum Fault {
     NoMemory,
     /// A line is longer than a line may be, or the input has 2^64 bytes or lines.
     TooLong,
-    /// A search gave up at a quit byte, and a pattern is too large for the toolchain's regexes.
+    /// A search gave up at a quit byte or matches are replaced, and a pattern is too large for the toolchain's regexes.
     TooLarge,
 }
 

@@ -3,19 +3,21 @@ ghost use Rattle.std.specs.Prelude.{◌≡◌, IfErr, IfOk, map, option_map, tru
 ghost use Rattle.grep_core.specs.Candidates.{IsLineStart, IsNextLine};
 ghost use Rattle.grep_core.specs.LongLines.{IsNextSpan, IsFoundSpan};
 ghost use Rattle.grep_core.specs.Printing.{span_pair};
-ghost use Rattle.grep_core.specs.Searchers.{IsMatchReported, AreReported, IsSearcherError, SearchesFor};
+ghost use Rattle.grep_core.specs.Searchers.{AreReplaced, IsMatchReported, AreReported, IsSearcherError, SearchesFor};
 
 use crate::candidates::Reached;
 use crate::fallback::ends_at;
 use crate::fault::Fault;
 use crate::line_finder::LineFinder;
 use crate::line_patterns::LinePatterns;
+use crate::replacing::Replaced;
 use crate::searcher::{Searcher, SearcherError};
 use crate::sizes::Size;
 use crate::slow_search::SlowSearch;
 use search_types::{MatchError, MatchErrorKind, Span};
 use std::alloc::Global;
 use std::marker::Model;
+use std::mem;
 
 /// Finds patterns in lines.
 ///
@@ -38,6 +40,10 @@ pub struct Finder<'t> {
     line_size: Size,
     /// How often caches of the search of lines were cleared that have been replaced by larger ones.
     past_clears: usize,
+    /// Room for the bytes of an input, which is kept for the next one.
+    room: Vec<u8>,
+    /// How many reads there were into it.
+    reads: u64,
 }
 
 impl<'t> Model for Finder<'t> {
@@ -104,7 +110,25 @@ impl<'t> Finder<'t> {
             candidates,
             line_size: Size::first(),
             past_clears: 0,
+            room: Vec::new(alloc),
+            reads: 0,
         })
+    }
+
+    /// Takes the room for the bytes of an input. Returns it, and how many reads there were into it.
+    pub(crate) fn take_room(&mut self, alloc: Global) -> (Vec<u8>, u64)
+        ensures { self.new ≡ self.old }
+    {
+        let room = mem::replace(&mut self.room, Vec::new(alloc));
+        (room, self.reads)
+    }
+
+    /// Keeps the room for the next input, and how many reads there were into it.
+    pub(crate) fn keep_room(&mut self, room: Vec<u8>, reads: u64)
+        ensures { self.new ≡ self.old }
+    {
+        self.room = room;
+        self.reads = reads;
     }
 
     /// Whether a carriage return right before a line feed belongs to the end of a line.
@@ -270,6 +294,24 @@ impl<'t> Finder<'t> {
             Ok(found) => Ok(found),
             Err(e) => Err(e),
         }
+    }
+
+    /// The line with its matches replaced by what a template writes for them, for patterns that were taken with their groups.
+    pub(crate) fn replaced(
+        &mut self,
+        alloc: Global,
+        line: &[u8],
+        template: &[u8],
+    ) -> Result<Replaced, Fault>
+        ensures same { self.new ≡ self.old }
+        ensures reported { IfOk result (λ r.
+            AreReplaced self.old.how self.old.texts template.now line.now r.bytes.items (map span_pair r.spans.items)) }
+    {
+        let replaced = match self.slow.replaced(alloc, line, template) {
+            Ok(replaced) => replaced,
+            Err(e) => return Err(e),
+        };
+        Ok(replaced)
     }
 
     /// Whether it may be asked for matches.

@@ -2,7 +2,7 @@
 ghost use Rattle.std.specs.Prelude.{◌≡◌, ◌++◌, ◌+◌, OnOk, map, option_map, slice_range};
 ghost use Rattle.std.specs.List.{flat_map};
 ghost use Rattle.grep_core.specs.ContextPrinting.{item, print_item};
-ghost use Rattle.grep_core.specs.Printing.{column_of, fields, long_match, match_bytes, match_text, printed_match, printed_matches, span_pair, text_line};
+ghost use Rattle.grep_core.specs.Printing.{column_of, fields, is_printed, long_match, match_bytes, match_text, printed_match, printed_matches, span_pair, text_line};
 
 use crate::colors::{match_part, push_marked};
 use crate::fault::Fault;
@@ -101,7 +101,14 @@ fn push_match(
     Ok(())
 }
 
-/// Appends a match as a line of its own, unless it is empty.
+/// Whether a match, or what replaces it, is printed as a line of its own.
+fn is_printed(what: &OutputOptions<'_>, span: Span) -> bool
+    ensures { result ≡ is_printed what.now (span_pair span) }
+{
+    span.start < span.end || what.replacement.is_some()
+}
+
+/// Appends a match as a line of its own, unless it is empty and isn't replaced.
 pub(crate) fn push_some(
     alloc: Global,
     out: &mut Vec<u8>,
@@ -114,7 +121,7 @@ pub(crate) fn push_some(
     ensures { OnOk result (out.new.items ≡ out.old.items
         ++ printed_match what.now (option_map (λ n. n.now) name.entry) role (text_line line.entry) (span_pair span)) }
 {
-    if span.start < span.end {
+    if is_printed(what, span) {
         return push_match(alloc, out, what, name, role, line, span);
     }
     Ok(())

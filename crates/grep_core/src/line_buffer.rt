@@ -7,14 +7,30 @@ use crate::fault::Fault;
 use std::alloc::{AllocError, Global};
 use std::io::Read;
 use std::marker::Model;
+use std::mem;
+
+/// The greatest number of bytes that one read asks for.
+const BLOCK: usize = 65536;
+
+/// The greatest number of bytes that the first reads ask for. They ask for less so that caches that are too small are enlarged before much
+/// is searched.
+const FIRST_BLOCK: usize = 4096;
+
+/// How many reads ask for the smaller number.
+const FIRST_BLOCKS: u64 = 16;
+
+/// Room for more bytes isn't kept for the next input.
+const KEPT: usize = 1 << 20;
 
 /// Buffered input: what was read and isn't processed yet. It is the first `len` bytes of a buffer; the rest of the buffer is room for the
 /// next read. So bytes that are processed with the block in which they were read are never copied. Nothing is allocated once there is room
-/// for a block and a line.
+/// for a block and a line. One buffer serves all inputs, so it counts the reads of the earlier ones too.
 #[derive(Drop)]
 pub(crate) struct LineBuffer {
     buffer: Vec<u8>,
     len: usize,
+    /// How many reads there were.
+    reads: u64,
 }
 
 impl Model for LineBuffer {
@@ -25,6 +41,17 @@ impl Model for LineBuffer {
     ghost view = { λ h. take h.len h.buffer.items };
 
     ghost invariant = { λ h. h.len ≤ length h.buffer.items };
+}
+
+/// How many bytes the next read asks for, after this many reads.
+fn block_len(reads: u64) -> usize
+    ensures some { 0 < result }
+    ensures most { result ≤ 65536 }
+{
+    if reads < FIRST_BLOCKS {
+        return FIRST_BLOCK;
+    }
+    BLOCK
 }
 
 /// Extends a buffer to this length, if it is shorter.
@@ -71,13 +98,32 @@ fn move_down(buffer: &mut Vec<u8>, from: usize, end: usize)
 }
 
 impl LineBuffer {
-    pub(crate) fn new(alloc: Global) -> LineBuffer
+    /// Begins to read an input into this room, into which there were so many reads.
+    pub(crate) fn over(room: Vec<u8>, reads: u64) -> LineBuffer
         ensures { result ≡ [] }
     {
         LineBuffer {
-            buffer: Vec::new(alloc),
+            buffer: room,
             len: 0,
+            reads,
         }
+    }
+
+    /// How many reads there were.
+    pub(crate) fn reads(&self) -> u64 {
+        self.reads
+    }
+
+    /// Takes the room for the next input, and leaves nothing. Room that became large for a long line is freed.
+    pub(crate) fn take_room(&mut self, alloc: Global) -> Vec<u8>
+        ensures { self.new ≡ [] }
+    {
+        self.len = 0;
+        let room = mem::replace(&mut self.buffer, Vec::new(alloc));
+        if room.len() > KEPT {
+            return Vec::new(alloc);
+        }
+        room
     }
 
     pub(crate) fn bytes(&self) -> &[u8]
@@ -86,17 +132,17 @@ impl LineBuffer {
         &self.buffer[..self.len]
     }
 
-    /// Appends the bytes of one read, at most this many. Returns their number; 0 means that the reader is at its end.
-    pub(crate) fn read_some<R: Read>(&mut self, reader: &mut R, most: usize) -> Result<usize, Fault>
-        requires { 0 < most }
+    /// Appends the bytes of one read. Returns their number; 0 means that the reader is at its end.
+    pub(crate) fn read_some<R: Read>(&mut self, reader: &mut R) -> Result<usize, Fault>
         ensures { IfOk result (λ n. ReadsSome (R.remaining reader.old) (R.remaining reader.new) self.old self.new n) }
     {
-        let Some(end) = self.len.checked_add(most) else {
+        let Some(end) = self.len.checked_add(block_len(self.reads)) else {
             return Err(Fault::TooLong);
         };
         make_room(&mut self.buffer, end)?;
         let n = read_into(reader, &mut self.buffer, self.len, end)?;
         self.len += n;
+        self.reads = self.reads.saturating_add(1);
         Ok(n)
     }
 

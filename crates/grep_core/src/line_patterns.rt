@@ -6,7 +6,9 @@ ghost use Rattle.grep_core.specs.Fallbacks.{IsProgramOf};
 ghost use Rattle.grep_core.specs.Searchers.{IsSearcherError};
 
 use crate::fallback::{EARLY_SIZE_LIMIT, program_of};
+use crate::fault::Fault;
 use crate::parsed_patterns::ParsedPatterns;
+use crate::pattern_groups::{GROUPS_SIZE_LIMIT, PatternGroups};
 use crate::patterns::PatternOptions;
 use crate::searcher::SearcherError;
 use hir_core::Hir;
@@ -22,10 +24,12 @@ use std::marker::Model;
 pub struct LinePatterns<'t> {
     parsed: ParsedPatterns<'t>,
     program: Option<Box<Program>>,
+    groups: Option<PatternGroups<'t>>,
+    fault: Fault,
 }
 
 impl<'t> Model for LinePatterns<'t> {
-    ghost use Rattle.std.specs.Prelude.{IfSome, ℕ, List};
+    ghost use Rattle.std.specs.Prelude.{◌≡◌, IfSome, ℕ, List};
     ghost use Rattle.grep_core.specs.Fallbacks.{IsProgramOf};
     ghost use Rattle.grep_core.specs.declared.patterns.PatternOptions.{PatternOptions};
 
@@ -33,7 +37,7 @@ impl<'t> Model for LinePatterns<'t> {
 
     ghost view = { λ p. p.parsed };
 
-    ghost invariant = { λ p. IfSome p.program (λ it. IsProgramOf p.parsed.0 p.parsed.1 it.value) };
+    ghost invariant = { λ p. IfSome p.program (λ it. IsProgramOf p.parsed.0 p.parsed.1 it.value) × IfSome p.groups (λ g. g ≡ p.parsed) };
 }
 
 /// Whether both bytes may begin a look at words, as `\\b` does.
@@ -64,6 +68,20 @@ fn program_at_once(alloc: Global, texts: &[&str], how: &PatternOptions) -> Optio
     }
 }
 
+/// Why matches can't be replaced, if the program or the groups couldn't be made.
+fn fault_of(
+    program: &Result<Box<Program>, Fault>,
+    groups: &Result<PatternGroups<'_>, Fault>,
+) -> Fault {
+    match program {
+        Err(e) => *e,
+        Ok(_) => match groups {
+            Err(e) => *e,
+            Ok(_) => Fault::TooLarge,
+        },
+    }
+}
+
 impl<'t> LinePatterns<'t> {
     /// Takes patterns in the syntax that is parsed. No error is reported for a pattern: [`Finder::new`](crate::Finder::new) reports it.
     pub fn new(alloc: Global, texts: &'t [&'t str], how: &PatternOptions) -> LinePatterns<'t>
@@ -73,6 +91,28 @@ impl<'t> LinePatterns<'t> {
         LinePatterns {
             parsed: ParsedPatterns::new(alloc, texts, how),
             program,
+            groups: None,
+            fault: Fault::TooLarge,
+        }
+    }
+
+    /// Takes patterns whose matches are to be replaced. In any case a program is compiled that finds the groups of a match, unless it has more
+    /// than 256 MiB. If there are several patterns, one is compiled for each of them too.
+    pub fn with_groups(
+        alloc: Global,
+        texts: &'t [&'t str],
+        how: &PatternOptions,
+    ) -> LinePatterns<'t>
+        ensures { result ≡ (how.now, map (λ t. t.now) texts.now) }
+    {
+        let program = program_of(alloc, how, texts, GROUPS_SIZE_LIMIT);
+        let groups = PatternGroups::new(alloc, texts, how);
+        let fault = fault_of(&program, &groups);
+        LinePatterns {
+            parsed: ParsedPatterns::new(alloc, texts, how),
+            program: program.ok(),
+            groups: groups.ok(),
+            fault,
         }
     }
 
@@ -100,6 +140,21 @@ impl<'t> LinePatterns<'t> {
             Ok(tree) => Ok(tree),
             Err(e) => Err(e),
         }
+    }
+
+    /// Their groups, if matches are to be replaced.
+    pub(crate) fn groups(&self) -> Option<&PatternGroups<'t>>
+        ensures { IfSome result (λ g. g.now ≡ self.now) }
+    {
+        match &self.groups {
+            Some(groups) => Some(groups),
+            None => None,
+        }
+    }
+
+    /// Why matches can't be replaced, if they can't.
+    pub(crate) fn fault(&self) -> Fault {
+        self.fault
     }
 
     /// Their program, if one is kept.

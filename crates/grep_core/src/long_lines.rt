@@ -1,5 +1,5 @@
 //! Prints the matches of long lines, one after the other. So the memory doesn't grow with the number of matches in a line.
-ghost use Rattle.std.specs.Prelude.{◌≡◌, ◌++◌, ◌∷◌, ◌≤◌, [], ℕ, Bool, List, IfErr, IfOk, IsTrue, OnOk, false, map, option_map, take, true};
+ghost use Rattle.std.specs.Prelude.{◌≡◌, ◌++◌, ◌∷◌, ◌≤◌, [], ℕ, Bool, List, IfErr, IfOk, IsTrue, None, OnOk, false, map, option_map, take, true};
 ghost use Rattle.std.specs.List.{flat_map};
 ghost use Rattle.std.specs.Io.KnownBytes.{Appends};
 ghost use Rattle.regex_hir.specs.Re.{Re};
@@ -128,13 +128,14 @@ fn write_matches<W: Write>(
     Ok(())
 }
 
-/// Whether the matches of selected lines are printed alone.
+/// Whether the matches of selected lines are printed alone, and not what replaces them.
 pub(crate) fn prints_matches(what: &OutputOptions<'_>) -> bool
     ensures matches { IsTrue result → what.now.print ≡ Matches }
     ensures plain { IsTrue result → what.now.invert ≡ false }
+    ensures unreplaced { IsTrue result → what.now.replacement ≡ None }
 {
     match what.print {
-        Print::Matches => !what.invert,
+        Print::Matches => !what.invert && what.replacement.is_none(),
         _ => false,
     }
 }
@@ -161,6 +162,7 @@ fn begin_matches(
     requires waits { Waits what.now telling.old.course }
     requires matches { what.now.print ≡ Matches }
     requires plain { what.now.invert ≡ false }
+    requires unreplaced { what.now.replacement ≡ None }
     requires may { may_select what.now.most telling.old.count ≡ true }
     ensures goes_on { OnOk result ((f : LineMatcher) (line : TextLine) → true ≡ f.has_match line.content → (lines : List TextLine) →
         out.old.items ++ still_reported what.now f name.now with_name telling.old (line ∷ lines)

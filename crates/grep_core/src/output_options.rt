@@ -81,4 +81,6 @@ pub struct OutputOptions<'a> {
     pub width: usize,
     /// What separates groups of lines, if context is asked for.
     pub groups: GroupSeparator<'a>,
+    /// The template by which each match is replaced in lines and matches that are printed, if there is one.
+    pub replacement: Option<&'a [u8]>,
 }

@@ -168,7 +168,7 @@ fn report_without(
         bytes,
         is_ended: true,
     };
-    report_line(
+    match report_line(
         alloc,
         out,
         task.what,
@@ -178,8 +178,14 @@ fn report_without(
         line,
         false,
         &[],
-    )?;
-    pass(progress, bytes.len())
+    ) {
+        Ok(()) => {}
+        Err(e) => return Err(e),
+    }
+    match pass(progress, bytes.len()) {
+        Ok(()) => Ok(()),
+        Err(e) => Err(e),
+    }
 }
 
 /// Processes lines without a match one by one: all of them, or only those before the first one from which on they can be skipped. Returns

@@ -211,7 +211,7 @@ pub(crate) fn has_marks(what: &OutputOptions<'_>, role: Role) -> bool
 pub(crate) fn shows_matches(what: &OutputOptions<'_>) -> bool
     ensures { result ≡ shows_matches what.now }
 {
-    what.color.is_some() || what.columns || what.each_match
+    what.color.is_some() || what.columns || what.each_match || what.replacement.is_some()
 }
 
 /// The matches that are shown in a line of this role that has these.

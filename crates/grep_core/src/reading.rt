@@ -25,16 +25,6 @@ use crate::separator_state::SeparatorState;
 use std::alloc::Global;
 use std::io::{ErrorKind, Read, Write};
 
-/// The greatest number of bytes that one read asks for.
-const BLOCK: usize = 65536;
-
-/// The greatest number of bytes that the first reads ask for. They ask for less so that caches that are too small are enlarged before much
-/// is searched.
-const FIRST_BLOCK: usize = 4096;
-
-/// How many reads ask for the smaller number.
-const FIRST_BLOCKS: u64 = 16;
-
 /// The greatest number of bytes that a line may have.
 const LONGEST: usize = 1 << 30;
 
@@ -200,18 +190,7 @@ fn report_read<W: Write>(
     Ok(over)
 }
 
-/// How many bytes the next read asks for, after this many blocks.
-fn block_len(blocks: u64) -> usize
-    ensures some { 0 < result }
-    ensures most { result ≤ 65536 }
-{
-    if blocks < FIRST_BLOCKS {
-        return FIRST_BLOCK;
-    }
-    BLOCK
-}
-
-/// Reads the next block, after this many blocks, and processes the lines that end in it.
+/// Reads the next block, and processes the lines that end in it.
 fn next_block<R: Read, W: Write>(
     alloc: Global,
     reader: &mut R,
@@ -220,7 +199,6 @@ fn next_block<R: Read, W: Write>(
     task: Task<'_>,
     read: &mut LineBuffer,
     progress: &mut Progress,
-    blocks: u64,
 ) -> Result<Next, Fault>
     requires waits { Waits task.what.now progress.old.telling.course }
     ensures same { finder.new ≡ finder.old }
@@ -235,7 +213,7 @@ fn next_block<R: Read, W: Write>(
         (W.contents writer.new)) }
 {
     let before = read.bytes().len();
-    let taken = match read.read_some(reader, block_len(blocks)) {
+    let taken = match read.read_some(reader) {
         Ok(taken) => taken,
         Err(e) => return Err(e),
     };
@@ -277,8 +255,8 @@ fn report_blocks<R: Read, W: Write>(
         WritesPart task.entry (finds_by task.entry by) progress.old (read.old ++ text) (W.contents writer.old)
         (W.contents writer.new)) }
 {
-    for blocks in 0..u64::MAX {
-        match next_block(alloc, reader, writer, finder, task, read, progress, blocks) {
+    for _blocks in 0..u64::MAX {
+        match next_block(alloc, reader, writer, finder, task, read, progress) {
             Ok(Next::More) => {}
             Ok(Next::End) => return Ok(true),
             Ok(Next::Over) => return Ok(false),
@@ -564,6 +542,52 @@ fn count_of(print: Print, progress: &Progress) -> u64
     counted_as(print, progress.telling.count)
 }
 
+/// Reads an input line by line into an empty buffer, and writes what is printed for it. Returns the number of selected lines.
+fn report_buffered<R: Read, W: Write>(
+    alloc: Global,
+    finder: &mut Finder<'_>,
+    what: &OutputOptions<'_>,
+    name: &[u8],
+    with_name: bool,
+    known: SeparatorState,
+    reader: &mut R,
+    writer: &mut W,
+    read: &mut LineBuffer,
+) -> Result<u64, Fault>
+    requires { read.old ≡ [] }
+    ensures same { finder.new ≡ finder.old }
+    ensures reported { OnOk result ((by : SearchesFor finder.old (needs_spans what.now)) → IfSome (R.remaining reader.old) (λ text.
+        Appends (W.contents writer.old) (W.contents writer.new) (report what.now (found_by by) name.now with_name known text))) }
+    ensures selected { IfOk result (λ n. (by : SearchesFor finder.old (needs_spans what.now)) → IfSome (R.remaining reader.old) (λ text.
+        n ≡ counted_as what.now.print (selected_count what.now (found_by by) text))) }
+    ensures fault { IfErr result (λ _. (by : SearchesFor finder.old (needs_spans what.now)) → IfSome (R.remaining reader.old) (λ text.
+        (n : ℕ) × Appends (W.contents writer.old) (W.contents writer.new)
+        (take n (report what.now (found_by by) name.now with_name known text)))) }
+{
+    let task = Task {
+        what,
+        name,
+        with_name,
+    };
+    let mut progress = Progress::new(alloc, first_of(what), known);
+    let ended = match report_blocks(alloc, reader, writer, finder, task, read, &mut progress) {
+        Ok(ended) => ended,
+        Err(e) => return Err(e),
+    };
+    match finish(
+        alloc,
+        writer,
+        finder,
+        task,
+        ended,
+        read.bytes(),
+        &mut progress,
+    ) {
+        Ok(()) => Ok(count_of(what.print, &progress)),
+        Err(e) => Err(e),
+    }
+}
+
 /// Reads an input line by line, and writes what is printed for it. Returns the number of selected lines. If names of inputs are asked for,
 /// or nothing, the number is at most 1. Then reading stops as soon as it is known whether a line is selected.
 ///
@@ -595,35 +619,13 @@ pub fn report_input<R: Read, W: Write>(
         (n : ℕ) × Appends (W.contents writer.old) (W.contents writer.new)
         (take n (report what.now (found_by by) name.now with_name known text)))) }
 {
-    let task = Task {
-        what,
-        name,
-        with_name,
-    };
-    let mut progress = Progress::new(alloc, first_of(what), known);
-    let mut read = LineBuffer::new(alloc);
-    let ended = match report_blocks(
-        alloc,
-        reader,
-        writer,
-        finder,
-        task,
-        &mut read,
-        &mut progress,
-    ) {
-        Ok(ended) => ended,
-        Err(e) => return Err(e),
-    };
-    match finish(
-        alloc,
-        writer,
-        finder,
-        task,
-        ended,
-        read.bytes(),
-        &mut progress,
-    ) {
-        Ok(()) => Ok(count_of(what.print, &progress)),
-        Err(e) => Err(e),
-    }
+    let (room, reads) = finder.take_room(alloc);
+    let mut read = LineBuffer::over(room, reads);
+    let reported = report_buffered(
+        alloc, finder, what, name, with_name, known, reader, writer, &mut read,
+    );
+    let reads = read.reads();
+    let room = read.take_room(alloc);
+    finder.keep_room(room, reads);
+    reported
 }

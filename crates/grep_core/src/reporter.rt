@@ -4,7 +4,7 @@ ghost use Rattle.std.specs.Prelude.{length, option_map, if◌then◌else◌};
 ghost use Rattle.grep_core.specs.ContextPrinting.{Item, Waits, item};
 ghost use Rattle.grep_core.specs.Lines.{TextLine};
 ghost use Rattle.grep_core.specs.Printing.{span_pair, text_line};
-ghost use Rattle.grep_core.specs.Report.{LineMatcher, first_of, report_as, selected, count_line, name_line, counted_as};
+ghost use Rattle.grep_core.specs.Report.{LineMatcher, first_of, report_as, selected, count_line, name_line, counted_as, shown_line, shown_spans};
 ghost use Rattle.grep_core.specs.Selecting.{count_selected};
 ghost use Rattle.grep_core.specs.Reporting.{shown, added, added_matches, counts_matches, prints_lines, reported_lines, may_select, still_reported, count_in_all};
 ghost use Rattle.grep_core.specs.declared.output_options.OutputOptions.{OutputOptions as TheOutputOptions};
@@ -149,7 +149,8 @@ impl Reporter {
     }
 }
 
-/// Processes one line, given whether it has a match and its matches, if the output depends on them.
+/// Processes one line, given as it is shown, with whether it has a match, and its matches or what replaces them, if the output depends on
+/// these.
 pub(crate) fn report_line(
     alloc: Global,
     out: &mut Vec<u8>,
@@ -162,12 +163,12 @@ pub(crate) fn report_line(
     found: &[Span],
 ) -> Result<(), Fault>
     requires { Waits what.now telling.old.course }
-    ensures goes_on { OnOk result ((f : LineMatcher) → has ≡ f.has_match (text_line line.entry).content →
-        map span_pair found.now ≡ f.spans (text_line line.entry).content → (lines : List TextLine) →
-        out.old.items ++ still_reported what.now f name.now with_name telling.old (text_line line.entry ∷ lines)
+    ensures goes_on { OnOk result ((f : LineMatcher) (own : TextLine) → has ≡ f.has_match own.content →
+        text_line line.entry ≡ shown_line what.now f own → map span_pair found.now ≡ shown_spans what.now f own → (lines : List TextLine) →
+        out.old.items ++ still_reported what.now f name.now with_name telling.old (own ∷ lines)
         ≡ out.new.items ++ still_reported what.now f name.now with_name telling.new lines) }
-    ensures counts { OnOk result ((f : LineMatcher) → has ≡ f.has_match (text_line line.entry).content → (lines : List TextLine) →
-        count_in_all what.now f telling.new lines ≡ count_in_all what.now f telling.old (text_line line.entry ∷ lines)) }
+    ensures counts { OnOk result ((f : LineMatcher) (own : TextLine) → has ≡ f.has_match own.content → (lines : List TextLine) →
+        count_in_all what.now f telling.new lines ≡ count_in_all what.now f telling.old (own ∷ lines)) }
     ensures waits { OnOk result (Waits what.now telling.new.course) }
 {
     let is_selected = is_selected(what, telling.count, has);

@@ -3,7 +3,7 @@ ghost use Rattle.std.specs.Prelude.{◌≡◌, ◌≤◌, IfOk, IfSome, length, 
 ghost use Rattle.grep_core.specs.Fallbacks.{IsProgramOf};
 ghost use Rattle.grep_core.specs.LongLines.{IsFoundSpan};
 ghost use Rattle.grep_core.specs.Printing.{span_pair};
-ghost use Rattle.grep_core.specs.Searchers.{IsMatchReported, AreReported};
+ghost use Rattle.grep_core.specs.Searchers.{AreReplaced, IsMatchReported, AreReported};
 
 use crate::fallback::{
     SIZE_LIMIT, all_matches, all_matches_anew, found_from, found_from_anew, has_one, has_one_anew,
@@ -11,6 +11,7 @@ use crate::fallback::{
 };
 use crate::fault::Fault;
 use crate::line_patterns::LinePatterns;
+use crate::replacing::{Replaced, replace_all};
 use regex_meta::{Program, Searcher};
 use search_types::Span;
 use std::alloc::Global;
@@ -129,6 +130,29 @@ impl<'t> SlowSearch<'t> {
         Ok(Some(found))
     }
 
+    /// The line with its matches replaced, by the searcher that is kept, if the patterns have groups to search for.
+    fn replaced_kept(
+        &mut self,
+        alloc: Global,
+        line: &[u8],
+        template: &[u8],
+    ) -> Result<Replaced, Fault>
+        ensures same { self.new ≡ self.old }
+        ensures reported { IfOk result (λ r.
+            AreReplaced self.old.0 self.old.1 template.now line.now r.bytes.items (map span_pair r.spans.items)) }
+    {
+        let Some(groups) = self.patterns.groups() else {
+            return Err(self.patterns.fault());
+        };
+        let Some(searcher) = &mut self.kept else {
+            return Err(self.patterns.fault());
+        };
+        match replace_all(alloc, searcher, groups, line, template) {
+            Ok(replaced) => Ok(replaced),
+            Err(e) => Err(e),
+        }
+    }
+
     /// Whether the line has a match, by a searcher that is made for it.
     fn has_match_anew(&mut self, alloc: Global, line: &[u8]) -> Result<bool, Fault>
         ensures same { self.new ≡ self.old }
@@ -200,6 +224,27 @@ impl<'t> SlowSearch<'t> {
         }
         match self.matches_anew(alloc, line) {
             Ok(found) => Ok(found),
+            Err(e) => Err(e),
+        }
+    }
+
+    /// The line with its matches replaced by what a template writes for them. It is an error if the patterns weren't taken with their groups.
+    pub(crate) fn replaced(
+        &mut self,
+        alloc: Global,
+        line: &[u8],
+        template: &[u8],
+    ) -> Result<Replaced, Fault>
+        ensures same { self.new ≡ self.old }
+        ensures reported { IfOk result (λ r.
+            AreReplaced self.old.0 self.old.1 template.now line.now r.bytes.items (map span_pair r.spans.items)) }
+    {
+        match self.ready(alloc) {
+            Ok(()) => {}
+            Err(e) => return Err(e),
+        }
+        match self.replaced_kept(alloc, line, template) {
+            Ok(replaced) => Ok(replaced),
             Err(e) => Err(e),
         }
     }

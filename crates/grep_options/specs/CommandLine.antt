@@ -158,7 +158,7 @@ folder_options =
     ∷ option (codes "devices") (codes "D") Set
     ∷ []
 
--- Which files are searched. The option `hidden` changes nothing: files whose name begins with a dot are searched.
+-- Which files are searched.
 abbrev pub glob_options : List OptionRow
 glob_options =
     option (codes "include") [] Append
@@ -168,12 +168,14 @@ glob_options =
     ∷ option (codes "glob") (codes "g") Append
     ∷ []
 
--- Files by their types. The last of these prints the types instead of a search.
+-- Files by their types. The third of these prints the types instead of a search. The last two change which types there are.
 abbrev pub type_options : List OptionRow
 type_options =
     option (codes "type") (codes "t") Append
     ∷ option (codes "type-not") [] Append
     ∷ flag (codes "type-list") []
+    ∷ option (codes "type-add") [] Append
+    ∷ option (codes "type-clear") [] Append
     ∷ []
 
 -- Ignore files. Of the first three the last one takes effect.
@@ -192,6 +194,8 @@ ignore_limits =
     ∷ flag (codes "no-ignore-dot") []
     ∷ flag (codes "no-ignore-parent") []
     ∷ flag (codes "no-require-git") []
+    ∷ flag (codes "no-ignore-exclude") []
+    ∷ flag (codes "no-ignore-files") []
     ∷ []
 
 -- globs in which letters match in either case
@@ -204,15 +208,24 @@ glob_cases =
 abbrev pub ignore_options : List OptionRow
 ignore_options = ignore_switches ++ (ignore_limits ++ glob_cases)
 
-abbrev pub file_options : List OptionRow
-file_options =
-    glob_options
-    ++ (type_options
-    ++ (flag (codes "hidden") []
-    ∷ option (codes "max-depth") [] Set
+-- Files and folders whose name begins with a dot. Of these two the later one takes effect.
+abbrev pub hidden_options : List OptionRow
+hidden_options =
+    flag_over (codes "hidden") [] (codes "no-hidden")
+    ∷ flag_over (codes "no-hidden") [] (codes "hidden")
+    ∷ []
+
+-- how deep folders are searched, how large files are, in which order they are searched, and whether their names are printed instead
+abbrev pub found_options : List OptionRow
+found_options =
+    option (codes "max-depth") [] Set
+    ∷ option (codes "max-filesize") [] Set
     ∷ option (codes "sort") [] Set
     ∷ flag (codes "files") []
-    ∷ ignore_options))
+    ∷ []
+
+abbrev pub file_options : List OptionRow
+file_options = glob_options ++ (type_options ++ (hidden_options ++ (found_options ++ ignore_options)))
 
 abbrev pub paired_options : List OptionRow
 paired_options =
@@ -257,6 +270,7 @@ line_options =
     ∷ option (codes "max-columns") (codes "M") Set
     ∷ flag (codes "max-columns-preview") []
     ∷ passthru_option
+    ∷ option (codes "replace") [] Set
     ∷ []
 
 -- what separates fields, and the parts of names
@@ -304,12 +318,14 @@ binary_options =
     ∷ skip_option
     ∷ []
 
--- These change nothing: no carriage return is removed, lines are written before more input is read, and counts of 0 are printed.
+-- These change nothing: no carriage return is removed, lines are written before more input is read, counts of 0 are printed, and no file is
+-- converted from another encoding.
 abbrev pub accepted_options : List OptionRow
 accepted_options =
     flag (codes "binary") (codes "U")
     ∷ flag (codes "line-buffered") []
     ∷ flag (codes "include-zero") []
+    ∷ option (codes "encoding") [] Set
     ∷ []
 
 -- A use of this option without a value counts as `auto`.

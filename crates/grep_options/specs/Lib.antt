@@ -3,3 +3,4 @@ pub mod Escapes
 pub mod FileOptions
 pub mod Numbers
 pub mod Options
+pub mod Sizes

@@ -76,17 +76,30 @@ option_words word s =
 
 -- ---- words
 
+-- one of the options that choose files and that GNU grep doesn't have
+abbrev pub is_awaiting_choice : List ℕ → Bool
+is_awaiting_choice w =
+    bytes_eq w (codes "--iglob") || (bytes_eq w (codes "--ignore-file") || (bytes_eq w (codes "--max-filesize")
+    || (bytes_eq w (codes "--type-add") || bytes_eq w (codes "--type-clear"))))
+
 -- one of the options that choose files
 abbrev pub is_awaiting_file : List ℕ → Bool
 is_awaiting_file w =
     bytes_eq w (codes "--include") || (bytes_eq w (codes "--exclude") || (bytes_eq w (codes "--exclude-from")
     || (bytes_eq w (codes "--exclude-dir") || (bytes_eq w (codes "--glob") || (bytes_eq w (codes "--max-depth") || (bytes_eq w (codes "--sort")
-    || (bytes_eq w (codes "--type") || bytes_eq w (codes "--type-not"))))))))
+    || (bytes_eq w (codes "--type") || (bytes_eq w (codes "--type-not") || is_awaiting_choice w))))))))
+
+-- one of the options on separators
+abbrev pub is_awaiting_separator : List ℕ → Bool
+is_awaiting_separator w =
+    bytes_eq w (codes "--group-separator") || (bytes_eq w (codes "--field-match-separator")
+    || (bytes_eq w (codes "--field-context-separator") || bytes_eq w (codes "--path-separator")))
 
 -- one of the options on the format of what is printed, or on what is printed of files with zero bytes
 abbrev pub is_awaiting_format : List ℕ → Bool
 is_awaiting_format w =
-    bytes_eq w (codes "--group-separator") || (bytes_eq w (codes "--max-columns") || bytes_eq w (codes "--binary-files"))
+    is_awaiting_separator w
+    || (bytes_eq w (codes "--max-columns") || (bytes_eq w (codes "--replace") || (bytes_eq w (codes "--binary-files") || bytes_eq w (codes "--encoding"))))
 
 -- a long option whose value is the next word
 abbrev pub is_awaiting : List ℕ → Bool

@@ -2,10 +2,10 @@
 ghost use Rattle.std.specs.Prelude.{◌≡◌, ◌≤◌, ◌∷◌, ◌++◌, [], OnOk, IfOk, List, length, map, codes};
 ghost use Rattle.clap.specs.Words.{found_of};
 ghost use Rattle.clap.specs.declared.builder.action.ArgAction.TheVariants.{Append, Set};
-ghost use Rattle.grep_options.specs.CommandLine.{AddsOptions, file_options, flag, glob_options, option, type_options};
+ghost use Rattle.grep_options.specs.CommandLine.{AddsOptions, file_options, found_options, glob_options, hidden_options, option, type_options};
 ghost use Rattle.grep_options.specs.FileOptions.{earlier, file_values, given_of, with_option, with_value, with_values};
 
-use crate::ignoring::push_ignoring;
+use crate::ignoring::{push_ignoring, push_switch};
 use crate::options::{list, option, push, push_long};
 use clap::{Arg, ArgAction, ArgMatches, value_parser};
 use std::alloc::{AllocError, Global};
@@ -59,7 +59,23 @@ fn push_types<'a>(alloc: Global, args: &mut Vec<Arg<'a>>) -> Result<(), AllocErr
     push_type(alloc, args)?;
     push_list(alloc, args, "type-not", "TYPE", "skip files of TYPE")?;
     let help = "print the types of files and the globs of their names";
-    push_long(alloc, args, "type-list", help)
+    push_long(alloc, args, "type-list", help)?;
+    let help =
+        "add a glob to a type, as in web:*.html, or the globs of types, as in web:include:html,css";
+    push_list(alloc, args, "type-add", "SPEC", help)?;
+    let help = "forget the globs of TYPE, before those of --type-add are added";
+    push_list(alloc, args, "type-clear", "TYPE", help)
+}
+
+/// Appends the options on hidden files. The later one takes effect.
+fn push_hidden<'a>(alloc: Global, args: &mut Vec<Arg<'a>>) -> Result<(), AllocError>
+    ensures { OnOk result (AddsOptions args.old.items args.new.items hidden_options) }
+{
+    let help = "search files and folders whose name begins with a dot, in folders: the default";
+    push_switch(alloc, args, "hidden", "no-hidden", help)?;
+    let help =
+        "skip files and folders whose name begins with a dot, in folders, unless a glob, a type or an ignore file chooses them";
+    push_switch(alloc, args, "no-hidden", "hidden", help)
 }
 
 fn push_depth<'a>(alloc: Global, args: &mut Vec<Arg<'a>>) -> Result<(), AllocError>
@@ -80,18 +96,34 @@ fn push_sort<'a>(alloc: Global, args: &mut Vec<Arg<'a>>) -> Result<(), AllocErro
     push(args, arg.value_name("ORDER"))
 }
 
+fn push_size<'a>(alloc: Global, args: &mut Vec<Arg<'a>>) -> Result<(), AllocError>
+    ensures { OnOk result (AddsOptions args.old.items args.new.items (option (codes "max-filesize") [] Set ∷ [])) }
+{
+    let help =
+        "skip files of more bytes than so many, in folders; with K, M or G after the number, of more KiB, MiB or GiB";
+    let arg = option(alloc, "max-filesize", ArgAction::Set, help);
+    push(args, arg.value_name("N"))
+}
+
+/// Appends the options on what is found in folders.
+fn push_found<'a>(alloc: Global, args: &mut Vec<Arg<'a>>) -> Result<(), AllocError>
+    ensures { OnOk result (AddsOptions args.old.items args.new.items found_options) }
+{
+    push_depth(alloc, args)?;
+    push_size(alloc, args)?;
+    push_sort(alloc, args)?;
+    let help = "print the names of the files that would be searched, without a pattern";
+    push_long(alloc, args, "files", help)
+}
+
 /// Appends the options that choose files.
 pub fn push_files<'a>(alloc: Global, args: &mut Vec<Arg<'a>>) -> Result<(), AllocError>
     ensures { OnOk result (AddsOptions args.old.items args.new.items file_options) }
 {
     push_globs(alloc, args)?;
     push_types(alloc, args)?;
-    let help = "accepted: files whose name begins with a dot are searched in any case";
-    push_long(alloc, args, "hidden", help)?;
-    push_depth(alloc, args)?;
-    push_sort(alloc, args)?;
-    let help = "print the names of the files that would be searched, without a pattern";
-    push_long(alloc, args, "files", help)?;
+    push_hidden(alloc, args)?;
+    push_found(alloc, args)?;
     push_ignoring(alloc, args)
 }
 

@@ -58,6 +58,16 @@ fn push_columns<'a>(alloc: Global, args: &mut Vec<Arg<'a>>) -> Result<(), AllocE
     push_over(args, arg, column)
 }
 
+fn push_replace<'a>(alloc: Global, args: &mut Vec<Arg<'a>>) -> Result<(), AllocError>
+    ensures { OnOk result (AddsOptions args.old.items args.new.items (option (codes "replace") [] Set ∷ [])) }
+{
+    let help =
+        "print this instead of each match; $1, $name and ${name} stand for its groups, and $$ for $";
+    let arg = option(alloc, "replace", ArgAction::Set, help);
+    let arg = arg.allow_hyphen_values(true).value_name("TEMPLATE");
+    push(args, arg)
+}
+
 /// Appends the options on which lines are printed, and how.
 fn push_lines<'a>(alloc: Global, args: &mut Vec<Arg<'a>>) -> Result<(), AllocError>
     ensures { OnOk result (AddsOptions args.old.items args.new.items line_options) }
@@ -70,7 +80,8 @@ fn push_lines<'a>(alloc: Global, args: &mut Vec<Arg<'a>>) -> Result<(), AllocErr
     push_max_columns(alloc, args)?;
     let help = "with -M, print the beginning of a longer line before the short text";
     push_long(alloc, args, "max-columns-preview", help)?;
-    push_passthru(alloc, args)
+    push_passthru(alloc, args)?;
+    push_replace(alloc, args)
 }
 
 /// An option that takes a text, with escapes as `\t`.

@@ -34,7 +34,11 @@ pub fn heading_of(id: &str) -> Option<&'static str> {
         | "no-ignore-dot"
         | "no-ignore-parent"
         | "no-require-git"
+        | "no-ignore-exclude"
+        | "no-ignore-files"
         | "glob-case-insensitive"
+        | "type-add"
+        | "type-clear"
         | "max-filesize" => Some("Which files are searched"),
         "directory"
         | "recursive"
@@ -42,9 +46,12 @@ pub fn heading_of(id: &str) -> Option<&'static str> {
         | "directories"
         | "devices"
         | "hidden"
+        | "no-hidden"
         | "max-depth"
         | "sort" => Some("Folders and devices"),
-        "text" | "binary" | "binary-files" | "without-binary" => Some("Files that are not text"),
+        "text" | "binary" | "binary-files" | "skip-binary" | "encoding" => Some(
+            "Files that are not text",
+        ),
         "count"
         | "count-matches"
         | "include-zero"

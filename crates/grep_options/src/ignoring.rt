@@ -8,7 +8,8 @@ use crate::options::{option, push_long, push_over, push_pair};
 use clap::{Arg, ArgAction};
 use std::alloc::{AllocError, Global};
 
-fn push_switch<'a>(
+/// Appends a flag that turns off another one.
+pub(crate) fn push_switch<'a>(
     alloc: Global,
     args: &mut Vec<Arg<'a>>,
     id: &'a str,
@@ -45,7 +46,11 @@ fn push_limits<'a>(alloc: Global, args: &mut Vec<Arg<'a>>) -> Result<(), AllocEr
     let help = "with --ignore: read no ignore files of the folders above those that are named";
     push_long(alloc, args, "no-ignore-parent", help)?;
     let help = "with --ignore: read .gitignore outside of work trees of git, too";
-    push_long(alloc, args, "no-require-git", help)
+    push_long(alloc, args, "no-require-git", help)?;
+    let help = "with --ignore: read no .git/info/exclude";
+    push_long(alloc, args, "no-ignore-exclude", help)?;
+    let help = "read no file of --ignore-file";
+    push_long(alloc, args, "no-ignore-files", help)
 }
 
 fn push_glob_cases<'a>(alloc: Global, args: &mut Vec<Arg<'a>>) -> Result<(), AllocError>

@@ -13,10 +13,12 @@ mod headings;
 mod ignoring;
 mod numbers;
 mod options;
+mod sizes;
 mod values;
 
 pub use escapes::unescaped;
 pub use files::{FileOption, FileValue, file_values};
 pub use numbers::with_numbers;
 pub use options::command;
+pub use sizes::size_of;
 pub use values::{is_set, limit, number};

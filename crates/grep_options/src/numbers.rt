@@ -1,6 +1,6 @@
 //! Numbers given as options of their own, as `-5`. The toolchain's parser has no such options, so `-C` is put before them.
 ghost use Rattle.std.specs.Prelude.{◌≡◌, ◌++◌, ◌∷◌, [], None, true, false, IfOk, IfSome, IsTrue, OnOk, map, string_bytes};
-ghost use Rattle.grep_options.specs.Numbers.{after_letters, after_other, has_letters, is_awaiting, is_awaiting_file, is_awaiting_format, is_digit, letters_in, letters_of};
+ghost use Rattle.grep_options.specs.Numbers.{after_letters, after_other, has_letters, is_awaiting, is_awaiting_choice, is_awaiting_file, is_awaiting_format, is_awaiting_separator, is_digit, letters_in, letters_of};
 ghost use Rattle.grep_options.specs.Numbers.{next_word, no_letters, option_words, takes_value, add_byte, add_bytes, with_digit, with_numbers, words_for};
 ghost use Rattle.grep_options.specs.declared.numbers.Next.TheVariants.{AnyWord, Value};
 
@@ -158,6 +158,17 @@ fn push_pieces(
     push_bytes(alloc, words, "-", cluster.letters.as_slice())
 }
 
+/// Whether the word is an option that chooses files, and that GNU grep doesn't have.
+fn is_awaiting_choice(word: &str) -> bool
+    ensures { result ≡ is_awaiting_choice word.now }
+{
+    word == "--iglob"
+        || word == "--ignore-file"
+        || word == "--max-filesize"
+        || word == "--type-add"
+        || word == "--type-clear"
+}
+
 /// Whether the word is an option that chooses files.
 fn is_awaiting_file(word: &str) -> bool
     ensures { result ≡ is_awaiting_file word.now }
@@ -171,13 +182,28 @@ fn is_awaiting_file(word: &str) -> bool
         || word == "--sort"
         || word == "--type"
         || word == "--type-not"
+        || is_awaiting_choice(word)
+}
+
+/// Whether the word is an option on separators.
+fn is_awaiting_separator(word: &str) -> bool
+    ensures { result ≡ is_awaiting_separator word.now }
+{
+    word == "--group-separator"
+        || word == "--field-match-separator"
+        || word == "--field-context-separator"
+        || word == "--path-separator"
 }
 
 /// Whether the word is an option on what is printed, whose value is the next word.
 fn is_awaiting_format(word: &str) -> bool
     ensures { result ≡ is_awaiting_format word.now }
 {
-    word == "--group-separator" || word == "--max-columns" || word == "--binary-files"
+    is_awaiting_separator(word)
+        || word == "--max-columns"
+        || word == "--replace"
+        || word == "--binary-files"
+        || word == "--encoding"
 }
 
 /// Whether the word is a long option whose value is the next word.

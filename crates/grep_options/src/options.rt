@@ -163,7 +163,17 @@ fn push_accepted<'a>(alloc: Global, args: &mut Vec<Arg<'a>>) -> Result<(), Alloc
     let help = "accepted: selected lines are always written before more input is read";
     push_long(alloc, args, "line-buffered", help)?;
     let help = "accepted: counts of 0 are always printed";
-    push_long(alloc, args, "include-zero", help)
+    push_long(alloc, args, "include-zero", help)?;
+    push_encoding(alloc, args)
+}
+
+fn push_encoding<'a>(alloc: Global, args: &mut Vec<Arg<'a>>) -> Result<(), AllocError>
+    ensures { OnOk result (AddsOptions args.old.items args.new.items (option (codes "encoding") [] Set ∷ [])) }
+{
+    let help = "accepted: no file is converted from another encoding, also without this option";
+    let words = ["none"].as_slice();
+    let arg = option(alloc, "encoding", ArgAction::Set, help).value_parser(words);
+    push(args, arg.value_name("ENCODING"))
 }
 
 fn push_counts<'a>(alloc: Global, args: &mut Vec<Arg<'a>>) -> Result<(), AllocError>

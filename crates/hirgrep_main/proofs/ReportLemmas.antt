@@ -27,6 +27,8 @@ searches_by b zero w s by = record {
   same = by.same;
   patterns = by.patterns;
   are_read = by.are_read;
+  names = by.names;
+  named = by.named;
 }
 
 -- What the search of an input returned, as one record.

@@ -1,5 +1,6 @@
 -- What each option asks for. Options are identified by their long names, under which the matches of the command line hold what was given.
 use Rattle.std.specs.Prelude.{ℕ, ◌^◌, ◌-◌, Bool, true, false, not, ◌&&◌, ◌||◌, nat_lt, List, codes, Option, Some, None, is_some, unwrap_or, if◌then◌else◌}
+use Rattle.std.specs.Borrow.{Bor}
 use Rattle.std.specs.Option.{option_or}
 use Rattle.clap.specs.Words.{first_value}
 use Rattle.clap.specs.declared.parser.matches.Found.{Found}
@@ -123,14 +124,18 @@ abbrev pub most_bytes_by : Option ℕ → Option ℕ
 most_bytes_by None = None
 most_bytes_by (Some n) = if nat_lt 0 n then Some n else None
 
+-- --replace: the template by which matches are replaced, if it is given.
+abbrev pub template_given : Found → Option (List ℕ)
+template_given f = first_value f (codes "replace")
+
 -- --color, with these colours
 abbrev pub colors_of : Found → Bool → Colors → Option Colors
 colors_of f is_colorful colors = if color_of f is_colorful then Some colors else None
 
 -- -v, -b, -m, -Z, -T, --trim, --max-columns-preview, and what is above. The width of numbers depends on the input. The colours are given, and
--- so are the separators of --field-match-separator and --field-context-separator.
-abbrev pub what_of : Found → Bool → Texts → GroupSeparator → OutputOptions
-what_of f is_colorful texts groups = record {
+-- so are the separators of --field-match-separator and --field-context-separator, and the template of --replace.
+abbrev pub what_of : Found → Bool → Texts → GroupSeparator → Option (Bor (List ℕ)) → OutputOptions
+what_of f is_colorful texts groups replacement = record {
   invert = is_set f (codes "invert-match");
   print = print_of f;
   numbers = has_numbers f;
@@ -149,14 +154,15 @@ what_of f is_colorful texts groups = record {
   preview = is_set f (codes "max-columns-preview");
   width = 0;
   groups = groups;
+  replacement = replacement;
 }
 
 -- -S, -R, -s, --stats, and what is above
-abbrev pub asked_of : Found → Bool → Texts → GroupSeparator → Asked
-asked_of f is_colorful texts groups = record {
+abbrev pub asked_of : Found → Bool → Texts → GroupSeparator → Option (Bor (List ℕ)) → Asked
+asked_of f is_colorful texts groups replacement = record {
   how = how_of f;
   smart_case = is_set f (codes "smart-case");
-  what = what_of f is_colorful texts groups;
+  what = what_of f is_colorful texts groups replacement;
   binary = binary_by (first_value f (codes "binary-files")) (is_set f (codes "skip-binary"));
   names = asked_names f;
   directories = directories_by (first_value f (codes "directories"))

@@ -74,9 +74,13 @@ reads_named ReadAll = true
 reads_named ReadNamed = true
 reads_named SkipAll = false
 
--- The character that a message has for this one: a question mark for a control character.
+-- The character that is shown for this one in messages and at a terminal: a question mark for a control character.
 abbrev pub shown_char : ℕ → ℕ
 shown_char c = if is_control c then 63 else c
+
+-- Control characters of names are hidden if standard output is a terminal, unless zero bytes end names.
+abbrev pub hides_controls : Bool → Bool → Bool
+hides_controls is_terminal zero_names = is_terminal && not zero_names
 
 -- ---- the outcome
 

@@ -4,13 +4,15 @@ use Rattle.clap.specs.declared.parser.matches.Found.{Found}
 use Rattle.grep_options.specs.Options.{is_set}
 use Rattle.hirgrep_main.specs.declared.selecting_files.Ignoring.{Ignoring}
 
--- What the options say of the ignore files of folders: whether any is read, whether `.ignore` and `.rgignore` are, git's, and those of the
--- folders above those that are searched, and whether git's count in its work trees alone.
+-- What the options say of the ignore files of folders: whether any is read, whether `.ignore` and `.rgignore` are, and whether git's are,
+-- with `.git/info/exclude`. Then, whether those of the folders above those that are searched are read, and whether git's count in its work
+-- trees alone.
 abbrev pub ignoring_given : Found → Ignoring
 ignoring_given f = record {
   reads = is_set f (codes "ignore");
   plain = not (is_set f (codes "no-ignore-dot"));
   git = not (is_set f (codes "no-ignore-vcs"));
+  exclude = not (is_set f (codes "no-ignore-exclude"));
   parents = not (is_set f (codes "no-ignore-parent"));
   needs_tree = not (is_set f (codes "no-require-git"));
 }

@@ -10,4 +10,5 @@ pub mod Selecting
 pub mod SmartCase
 pub mod Tasks
 pub mod Texts
+pub mod TypeChanges
 pub mod Walking

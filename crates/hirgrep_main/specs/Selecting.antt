@@ -1,5 +1,5 @@
 -- Which files the options choose.
-use Rattle.std.specs.Prelude.{◌≡◌, ℕ, ◌+◌, ◌==◌, Bool, true, false, ◌&&◌, ◌||◌, not, nat_lt, List, [], ◌∷◌, ◌++◌, codes, drop, length, map, nat_eq, is_none, Option, Some, None, if◌then◌else◌}
+use Rattle.std.specs.Prelude.{◌≡◌, ℕ, ◌+◌, ◌==◌, Bool, true, false, ◌&&◌, ◌||◌, not, nat_lt, List, [], ◌∷◌, ◌++◌, codes, drop, length, map, nat_eq, is_none, is_some, option_and_then, Option, Some, None, if◌then◌else◌}
 use Rattle.std.specs.List.{flat_map, list_all, list_any, slice_split}
 use Rattle.std.specs.Cmp.Lexicographic.{pointwise}
 use Rattle.std.specs.Str.{chars}
@@ -8,9 +8,10 @@ use Rattle.clap.specs.declared.parser.matches.Found.{Found}
 use Rattle.globs.specs.Matching.{is_slash}
 use Rattle.globs.specs.Paths.{file_name, kept_len, without_dot}
 use Rattle.globs.specs.Ignoring.{ignore_rules, or_else}
-use Rattle.globs.specs.Rules.{Rule, chooses, decided, excluded, folder_rule, glob_fault, glob_rule, grep_rule, rule_of, skips}
+use Rattle.globs.specs.Rules.{Rule, begins, chooses, decided, excluded, folder_rule, glob_fault, glob_rule, grep_rule, rule_of, skips}
 use Rattle.grep_options.specs.FileOptions.{Given, file_values}
 use Rattle.grep_options.specs.Options.{is_set, is_text, number_given, values_given}
+use Rattle.grep_options.specs.Sizes.{size_of}
 use Rattle.grep_options.specs.declared.files.FileOption.{FileOption}
 use Rattle.grep_options.specs.declared.files.FileOption.TheVariants.{Include, Exclude, ExcludeFrom}
 use Rattle.hirgrep_main.specs.FileTypes.{TypeRow, is_type, of_type, type_rules}
@@ -82,6 +83,13 @@ types_given f rows = named_types true rows (values_given f (codes "type")) ++ na
 abbrev pub gives_types : Found → List TypeRow → Bool
 gives_types f rows = are_types rows (values_given f (codes "type")) && are_types rows (values_given f (codes "type-not"))
 
+-- The greatest size of a file that is searched, and whether none is given that can't be read.
+abbrev pub size_given : Found → Option ℕ
+size_given f = option_and_then size_of (first_value f (codes "max-filesize"))
+
+abbrev pub gives_size : Found → Bool
+gives_size f = is_none (first_value f (codes "max-filesize")) || is_some (size_given f)
+
 -- ---- what chooses files
 
 pub record Selection : Type 0 where
@@ -97,8 +105,12 @@ pub record Selection : Type 0 where
   pub ignored : List Rule
   -- which ignore files of folders are read
   pub ignoring : Ignoring
+  -- what is hidden is left out
+  pub hides : Bool
   -- how deep folders are searched
   pub max_depth : Option ℕ
+  -- how many bytes a file has at most that is searched
+  pub max_size : Option ℕ
   -- names are printed, and nothing is searched
   pub lists : Bool
   -- the names in a folder are put in order
@@ -112,7 +124,9 @@ selection s = record {
   types = map rule_of s.types.items;
   ignored = map rule_of s.ignored.items;
   ignoring = s.ignoring;
+  hides = s.hides;
   max_depth = s.max_depth;
+  max_size = s.max_size;
   lists = s.lists;
   sorts = s.sorts;
 }
@@ -126,7 +140,9 @@ selection_without_rules f = record {
   types = [];
   ignored = [];
   ignoring = ignoring_given f;
+  hides = is_set f (codes "no-hidden");
   max_depth = number_given f (codes "max-depth");
+  max_size = size_given f;
   lists = is_set f (codes "files");
   sorts = is_text (codes "path") (first_value f (codes "sort"));
 }
@@ -162,16 +178,17 @@ selection_given f rows contents = with_rules (selection_without_rules f) f rows 
 
 -- What they choose with the rules of the files of --ignore-file, each of which has a content.
 abbrev pub ignore_files : Found → List (List ℕ)
-ignore_files f = values_given f (codes "ignore-file")
+ignore_files f = if is_set f (codes "no-ignore-files") then [] else values_given f (codes "ignore-file")
 
 abbrev pub IsGiven : Found → List TypeRow → Selection → Type 0
 IsGiven f rows s = (contents : List (List ℕ)) × ((ignored : List Rule) × (AreIgnored [] ignored (length (ignore_files f))
     × (s ≡ with_ignored (selection_given f rows contents) ignored)))
 
--- No file of rules is named but by --ignore-file, each glob can be read and each type is known: then the options choose files whatever the system does.
+-- No file of rules is named but by --ignore-file, each glob and the size can be read and each type is known: then the options choose files
+-- whatever the system does.
 abbrev pub is_sure : Found → List TypeRow → Bool
 is_sure f rows =
-    not (list_any (λ (v : Given). names_rules v.option) (file_values f)) && (gives_globs f && gives_types f rows)
+    gives_size f && (not (list_any (λ (v : Given). names_rules v.option) (file_values f)) && (gives_globs f && gives_types f rows))
 
 -- ---- what is left out
 
@@ -207,23 +224,52 @@ abbrev pub is_ignoring : Option Bool → Bool
 is_ignoring None = false
 is_ignoring (Some is) = is
 
--- What is at this path is to be ignored. `said` is what the ignore files of folders say of it, which count before those of --ignore-file.
-abbrev pub skips_ignored : Selection → Option Bool → Bool → List ℕ → Bool
-skips_ignored s said is_folder path =
-    is_git_folder s path || is_ignoring (or_else said (decided None s.ignored is_folder false (without_dot (chars path))))
+-- What all ignore files say of what is at this path. `said` is what those of folders say of it, which count before those of --ignore-file.
+abbrev pub ignores_say : Selection → Option Bool → Bool → List ℕ → Option Bool
+ignores_say s said is_folder path = or_else said (decided None s.ignored is_folder false (without_dot (chars path)))
 
--- What is at this path is left out by ignore files or by types. This counts only if the globs say nothing.
+-- What is at this path is to be ignored.
+abbrev pub skips_ignored : Selection → Option Bool → Bool → List ℕ → Bool
+skips_ignored s said is_folder path = is_git_folder s path || is_ignoring (ignores_say s said is_folder path)
+
+-- The name of what is at this path begins with a dot.
+abbrev pub is_hidden : List ℕ → Bool
+is_hidden path = begins 46 (file_name (chars path))
+
+-- A rule of ignore files says that something isn't to be ignored.
+abbrev pub is_keeping : Option Bool → Bool
+is_keeping None = false
+is_keeping (Some is) = not is
+
+-- Files are chosen by their types, and this is one of them.
+abbrev pub has_type : Selection → Bool → List ℕ → Bool
+has_type s is_folder path = not is_folder && is_ignoring (decided None s.types false false (file_name (chars path)))
+
+-- What is at this path is hidden, and neither an ignore file nor its type chooses it.
+abbrev pub skips_hidden : Selection → Option Bool → Bool → List ℕ → Bool
+skips_hidden s said is_folder path =
+    (s.hides && is_hidden path) && not (is_keeping (ignores_say s said is_folder path) || has_type s is_folder path)
+
+-- What is at this path is left out by ignore files, by types or since it is hidden. This counts only if the globs say nothing.
 abbrev pub skips_unnamed : Selection → Option Bool → Bool → List ℕ → Bool
-skips_unnamed s said is_folder path = skips_ignored s said is_folder path || skips_type s is_folder path
+skips_unnamed s said is_folder path =
+    skips_ignored s said is_folder path || (skips_type s is_folder path || skips_hidden s said is_folder path)
+
+-- A file has more bytes than a file may have. The size of other things isn't known.
+abbrev pub is_too_large : Option ℕ → Option ℕ → Bool
+is_too_large None size = false
+is_too_large (Some most) None = false
+is_too_large (Some most) (Some size) = nat_lt most size
 
 abbrev pub skips_by_globs : Option Bool → Bool → Bool
 skips_by_globs (Some chosen) other = not chosen
 skips_by_globs None other = other
 
--- What is at this path, which was found in a folder, is left out.
-abbrev pub skips_found : Selection → Option Bool → Bool → List ℕ → Bool
-skips_found s said is_folder path =
-    skips_entry s is_folder path || skips_by_globs (globs_say s is_folder path) (skips_unnamed s said is_folder path)
+-- What is at this path, which was found in a folder and has this size, is left out.
+abbrev pub skips_found : Selection → Option Bool → Bool → Option ℕ → List ℕ → Bool
+skips_found s said is_folder size path =
+    (is_too_large s.max_size size || skips_entry s is_folder path)
+    || skips_by_globs (globs_say s is_folder path) (skips_unnamed s said is_folder path)
 
 -- ---- how deep folders are searched
 

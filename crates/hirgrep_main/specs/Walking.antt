@@ -38,6 +38,16 @@ abbrev pub is_folder : Result Kind Error → Bool
 is_folder (Ok kind) = is_folder_kind kind
 is_folder (Err e) = false
 
+abbrev pub is_file_kind : Kind → Bool
+is_file_kind File = true
+is_file_kind Folder = false
+is_file_kind Link = false
+is_file_kind Device = false
+
+abbrev pub is_file : Result Kind Error → Bool
+is_file (Ok kind) = is_file_kind kind
+is_file (Err e) = false
+
 -- What an argument names, by what is at its path. A link to nothing is opened as a file, and reported.
 abbrev pub named_by : Kind → Named
 named_by File = NamedFile

@@ -1,10 +1,10 @@
 //! What the options ask for.
-ghost use Rattle.std.specs.Prelude.{◌≡◌, ◌||◌, codes, if◌then◌else◌, unwrap_or};
+ghost use Rattle.std.specs.Prelude.{◌≡◌, ◌||◌, codes, if◌then◌else◌, option_map, unwrap_or};
 ghost use Rattle.clap.specs.Words.{first_value, found_of};
 ghost use Rattle.grep_core.specs.Printing.{group_text};
 ghost use Rattle.grep_options.specs.Options.{is_set};
 ghost use Rattle.hirgrep_main.specs.Asks.{all_lines, asked_names, asked_of, color_of, colors_of, context_by, context_of, devices_by, directories_by, how_of};
-ghost use Rattle.hirgrep_main.specs.Asks.{group_given, has_columns, has_heading, has_numbers, most_bytes_by, print_of, what_of};
+ghost use Rattle.hirgrep_main.specs.Asks.{group_given, has_columns, has_heading, has_numbers, most_bytes_by, print_of, template_given, what_of};
 
 use crate::binary::{Binary, binary_of};
 use clap::ArgMatches;
@@ -270,6 +270,16 @@ pub fn groups_of<'a>(matches: &ArgMatches<'a>) -> GroupSeparator<'a>
     }
 }
 
+/// The template by which matches are replaced, if it is given.
+pub fn template_of<'a>(matches: &ArgMatches<'a>) -> Option<&'a [u8]>
+    ensures { option_map (λ t. t.now) result ≡ template_given (found_of matches.now) }
+{
+    match matches.get_str("replace") {
+        Some(text) => Some(text.as_bytes()),
+        None => None,
+    }
+}
+
 /// Whether the numbers of lines are printed. Of `-n` and `-N`, the later one has turned off the other.
 fn has_numbers(matches: &ArgMatches<'_>) -> bool
     ensures { result ≡ has_numbers (found_of matches.now) }
@@ -324,8 +334,9 @@ fn what_of<'a>(
     is_colorful: bool,
     texts: Texts<'a>,
     groups: GroupSeparator<'a>,
+    replacement: Option<&'a [u8]>,
 ) -> OutputOptions<'a>
-    ensures { result ≡ what_of (found_of matches.now) is_colorful texts.entry groups.entry }
+    ensures { result ≡ what_of (found_of matches.now) is_colorful texts.entry groups.entry replacement.entry }
 {
     OutputOptions {
         invert: is_set(matches, "invert-match"),
@@ -346,6 +357,7 @@ fn what_of<'a>(
         preview: is_set(matches, "max-columns-preview"),
         width: 0,
         groups,
+        replacement,
     }
 }
 
@@ -355,13 +367,14 @@ pub fn asked_of<'a>(
     is_colorful: bool,
     texts: Texts<'a>,
     groups: GroupSeparator<'a>,
+    replacement: Option<&'a [u8]>,
 ) -> Asked<'a>
-    ensures { result ≡ asked_of (found_of matches.now) is_colorful texts.entry groups.entry }
+    ensures { result ≡ asked_of (found_of matches.now) is_colorful texts.entry groups.entry replacement.entry }
 {
     Asked {
         how: how_of(matches),
         smart_case: is_set(matches, "smart-case"),
-        what: what_of(matches, is_colorful, texts, groups),
+        what: what_of(matches, is_colorful, texts, groups, replacement),
         binary: binary_of(matches),
         names: names_of(matches),
         directories: directories_of(matches),

@@ -300,7 +300,7 @@ pub const TYPES: [(&str, &str); 289] = [
 ];
 
 /// Whether a row is of this type. All rows are of the type `all`.
-fn is_of(row: &(&str, &str), name: &str) -> bool
+pub fn is_of(row: &(&str, &str), name: &str) -> bool
     ensures { result ≡ is_of name.now (row_of row.now) }
 {
     name == row.0 || name == "all"

@@ -132,6 +132,9 @@ fn add_git(
     }
     let kind = IgnoreKind::Git;
     add_file(rt, task, outcome, level, kind, folder, ".gitignore")?;
+    if !task.selection.ignoring.exclude {
+        return Ok(());
+    }
     let kind = IgnoreKind::Exclude;
     add_file(rt, task, outcome, level, kind, folder, ".git/info/exclude")
 }

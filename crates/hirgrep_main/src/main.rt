@@ -18,6 +18,7 @@ mod grep_colors;
 mod ignoring;
 mod input;
 mod input_report;
+mod listing;
 mod loops;
 mod messages;
 mod outcome;
@@ -31,10 +32,13 @@ mod shown;
 mod smart_case;
 mod task;
 mod texts;
+mod type_changes;
 mod walking;
 
 use crate::arguments::{arguments_of, report_usage};
-use crate::asked::{Asked, Directories, asked_of, color_of, groups_of, input_name, is_colorful};
+use crate::asked::{
+    Asked, Directories, asked_of, color_of, groups_of, input_name, is_colorful, template_of,
+};
 use crate::file_types::{TYPES, list_of_types};
 use crate::messages::{report_error, report_output};
 use crate::outcome::Outcome;
@@ -42,6 +46,7 @@ use crate::patterns::{gives_patterns, lines_of, patterns_of};
 use crate::searching::{Files, search};
 use crate::selecting_files::{Selection, selection_of};
 use crate::texts::GivenTexts;
+use crate::type_changes::{changes_types, types_changed};
 use clap::ArgMatches;
 use grep_options::{command, is_set, with_numbers};
 use std::alloc::AllocError;
@@ -126,6 +131,19 @@ fn run_chosen(
     run_words(rt, asked, words)
 }
 
+/// Runs the search that the options ask for, of files of these types.
+fn run_typed(
+    rt: &HostRuntime,
+    asked: &Asked,
+    types: &[(&str, &str)],
+    matches: &ArgMatches<'_>,
+) -> Result<Outcome, AllocError> {
+    match selection_of(rt, asked, types, matches)? {
+        Some(selection) => run_chosen(rt, asked, matches, &selection),
+        None => Ok(Outcome::failure()),
+    }
+}
+
 /// Runs the search that the options ask for, in the folder that is named, if there is one.
 fn run_asked(
     rt: &HostRuntime,
@@ -135,15 +153,21 @@ fn run_asked(
     if !enter(rt, matches.get_strs("directory").unwrap_or(&[])) {
         return Ok(Outcome::failure());
     }
-    match selection_of(rt, asked, &TYPES, matches)? {
-        Some(selection) => run_chosen(rt, asked, matches, &selection),
+    if !changes_types(matches) {
+        return run_typed(rt, asked, &TYPES, matches);
+    }
+    match types_changed(rt, &TYPES, matches)? {
+        Some(types) => run_typed(rt, asked, &types, matches),
         None => Ok(Outcome::failure()),
     }
 }
 
 /// Prints the types of files, and returns the exit status.
-fn print_types(rt: &HostRuntime) -> Result<u8, AllocError> {
-    let text = list_of_types(rt.alloc(), &TYPES)?;
+fn print_types(rt: &HostRuntime, matches: &ArgMatches<'_>) -> Result<u8, AllocError> {
+    let Some(types) = types_changed(rt, &TYPES, matches)? else {
+        return Ok(2);
+    };
+    let text = list_of_types(rt.alloc(), &types)?;
     match rt.stdout().write_all(text.as_bytes()) {
         Ok(()) => Ok(0),
         Err(e) => {
@@ -161,7 +185,13 @@ fn run_with<'a>(
     given: &'a GivenTexts,
 ) -> Result<u8, AllocError> {
     let texts = given.texts(matches.get_str("path-separator"));
-    let asked = asked_of(matches, is_colorful, texts, groups_of(matches));
+    let asked = asked_of(
+        matches,
+        is_colorful,
+        texts,
+        groups_of(matches),
+        template_of(matches),
+    );
     let outcome = run_asked(rt, &asked, matches)?;
     Ok(outcome.status(&asked))
 }
@@ -177,7 +207,7 @@ fn run_matches(rt: &HostRuntime, matches: &ArgMatches<'_>) -> Result<u8, AllocEr
         return Ok(2);
     }
     if is_set(matches, "type-list") {
-        return print_types(rt);
+        return print_types(rt, matches);
     }
     let is_colorful = is_colorful(rt);
     let given = GivenTexts::new(rt, matches, color_of(matches, is_colorful))?;

@@ -164,7 +164,7 @@ pub fn report_fault(rt: &HostRuntime, name: &str, fault: Fault, causes: Causes) 
         Fault::NoMemory => "out of memory",
         Fault::TooLong => "a line above 1 GiB, or too many of them",
         Fault::TooLarge =>
-            "the patterns are too large to search a line with non-ASCII text next to a word boundary",
+            "the patterns are too large to replace matches, or to search a line with non-ASCII text next to a word boundary",
     };
     report_reason(rt, name, said);
 }

@@ -1,5 +1,5 @@
 //! Searches files, one after the other.
-ghost use Rattle.std.specs.Prelude.{◌≡◌, ℕ, Bool, true, false, Result, Ok, IfErr, IfOk, IfSome, OnOk, codes, map, string_bytes, if◌then◌else◌};
+ghost use Rattle.std.specs.Prelude.{◌≡◌, ℕ, Bool, true, false, None, Result, Ok, IfErr, IfOk, IfSome, OnOk, codes, map, string_bytes, if◌then◌else◌};
 ghost use Rattle.grep_core.specs.Meant.{written};
 ghost use Rattle.grep_core.specs.Searchers.{SearchesFor, found_by};
 ghost use Rattle.grep_core.specs.Reporting.{needs_spans};
@@ -10,7 +10,7 @@ ghost use Rattle.hirgrep_main.specs.declared.asked.Directories.TheVariants.{Reje
 ghost use Rattle.hirgrep_main.specs.declared.searching.Named.TheVariants.{Input, File, Folder, Device};
 ghost use Rattle.hirgrep_main.specs.declared.walking.Kind.TheVariants.{Link, Device as FoundDevice, File as FoundFile, Folder as FoundFolder};
 ghost use Rattle.hirgrep_main.specs.Selecting.{depth_in, enters, selection, skips_found};
-ghost use Rattle.hirgrep_main.specs.Walking.{Tries, is_folder, is_folder_kind, is_left_out, leaves_out, may_be_several, named_by};
+ghost use Rattle.hirgrep_main.specs.Walking.{Tries, is_file, is_file_kind, is_folder, is_folder_kind, is_left_out, leaves_out, may_be_several, named_by};
 ghost use Rattle.hirgrep_main.specs.Outcomes.{Continues, after_search, no_outcome, with_failure};
 ghost use Rattle.hirgrep_main.specs.Asks.{with_case};
 ghost use Rattle.hirgrep_main.specs.Tasks.{count_of};
@@ -22,10 +22,12 @@ use crate::counting::Counting;
 use crate::ignoring::IgnoreFiles;
 use crate::input::input;
 use crate::input_report::report_one;
+use crate::listing::list_file;
 use crate::messages::{Causes, report_no_finder};
 use crate::outcome::Outcome;
 use crate::output::Output;
 use crate::selecting_files::Selection;
+use crate::shown::hides_controls;
 use crate::smart_case::ignores_case;
 use crate::task::{Task, shown_name};
 use crate::texts::separated_name;
@@ -35,7 +37,7 @@ use grep_core::{
     config_of, needs_spans, pattern_source,
 };
 use std::alloc::{AllocError, Global};
-use std::io::{Read, Write};
+use std::io::{IsTerminal, Read, Write};
 use std::rt::Runtime;
 use std::{fs, io};
 
@@ -221,46 +223,6 @@ fn search_input(rt: &HostRuntime, finder: &mut Finder<'_>, task: Task<'_>, outco
     search_aligned(rt, finder, task, outcome, name, width, Ok(reader));
 }
 
-/// Writes the name of a file and what ends it, unless nothing is printed.
-fn write_name<W: Write>(print: Print, name: &str, end: char, writer: &mut W) -> Result<u64, Fault>
-    ensures one { IfOk result (λ n. n ≡ 1) }
-{
-    if print == Print::Nothing {
-        return Ok(1);
-    }
-    match write!(writer, "{name}{end}") {
-        Ok(()) => Ok(1),
-        Err(e) => Err(Fault::Write(e.kind())),
-    }
-}
-
-/// Prints the name of a file, and records the outcome.
-fn list_file(rt: &HostRuntime, task: Task<'_>, outcome: &mut Outcome, name: &str)
-    ensures counted { outcome.new.files ≡ counted outcome.old.files 1 }
-    ensures continues { Continues outcome.old outcome.new }
-{
-    let mut writer = Output::new(rt.stdout());
-    let print = task.asked.what.print;
-    let end = if task.asked.what.zero_names {
-        '\0'
-    } else {
-        '\n'
-    };
-    let written = write_name(print, name, end, &mut writer);
-    outcome.keep_search(
-        rt,
-        task.asked,
-        name,
-        0,
-        writer.wrote(),
-        written,
-        Causes {
-            read: None,
-            write: writer.code(),
-        },
-    );
-}
-
 /// Searches a file under this name, or prints the name.
 fn search_under(
     rt: &HostRuntime,
@@ -396,7 +358,41 @@ fn is_folder(kind: &io::Result<Kind>) -> bool
     }
 }
 
-/// Searches something of this kind that was found in a folder, unless the options leave it out. The ignore files of folders said this of it.
+fn is_file_kind(kind: Kind) -> bool
+    ensures { result ≡ is_file_kind kind }
+{
+    match kind {
+        Kind::File => true,
+        Kind::Folder | Kind::Link | Kind::Device => false,
+    }
+}
+
+/// Whether this is a file.
+fn is_file(kind: &io::Result<Kind>) -> bool
+    ensures { result ≡ is_file kind.now }
+{
+    match kind {
+        Ok(kind) => is_file_kind(*kind),
+        Err(_) => false,
+    }
+}
+
+/// The size of the file at a path, if files have a greatest size. Sizes of other things don't count.
+fn size_at(rt: &HostRuntime, task: Task<'_>, kind: &io::Result<Kind>, path: &str) -> Option<u64>
+    ensures any { task.entry.selection.now.max_size ≡ None → result ≡ None }
+    ensures other { is_file kind.now ≡ false → result ≡ None }
+{
+    if task.selection.max_size.is_none() || !is_file(kind) {
+        return None;
+    }
+    match fs::metadata(rt, path) {
+        Ok(metadata) => Some(metadata.len()),
+        Err(_) => None,
+    }
+}
+
+/// Searches something of this kind and size that was found in a folder, unless the options leave it out. The ignore files of folders said
+/// this of it.
 fn search_unless_skipped(
     rt: &HostRuntime,
     finder: &mut Finder<'_>,
@@ -406,20 +402,21 @@ fn search_unless_skipped(
     root: &str,
     path: &str,
     said: Option<bool>,
+    size: Option<u64>,
     kind: io::Result<Kind>,
 ) -> Result<(), AllocError>
-    ensures skipped { skips_found (selection task.entry.selection.now) said (is_folder kind) path.now ≡ true
+    ensures skipped { skips_found (selection task.entry.selection.now) said (is_folder kind) size path.now ≡ true
         → (outcome.new ≡ outcome.old) × (left.new ≡ left.old) }
-    ensures file { skips_found (selection task.entry.selection.now) said (is_folder kind) path.now ≡ false
+    ensures file { skips_found (selection task.entry.selection.now) said (is_folder kind) size path.now ≡ false
         → kind ≡ Ok FoundFile → OnOk result (Tries outcome.old outcome.new) }
-    ensures unread { skips_found (selection task.entry.selection.now) said (is_folder kind) path.now ≡ false
+    ensures unread { skips_found (selection task.entry.selection.now) said (is_folder kind) size path.now ≡ false
         → IfErr kind (λ _. OnOk result (outcome.new ≡ with_failure outcome.old)) }
     ensures continues { Continues outcome.old outcome.new }
 {
     let is_folder = is_folder(&kind);
     if task
         .selection
-        .skips_found(rt.alloc(), said, is_folder, path)?
+        .skips_found(rt.alloc(), said, is_folder, size, path)?
     {
         return Ok(());
     }
@@ -440,8 +437,11 @@ fn search_found(
     ensures { Continues outcome.old outcome.new }
 {
     let kind = kind_of(rt, path, task.asked.follows);
+    let size = size_at(rt, task, &kind, path);
     let said = ignoring.said(rt, task, outcome, root, path, is_folder(&kind))?;
-    search_unless_skipped(rt, finder, task, outcome, left, root, path, said, kind)
+    search_unless_skipped(
+        rt, finder, task, outcome, left, root, path, said, size, kind,
+    )
 }
 
 /// Searches the files of a folder, and of the folders in it.
@@ -702,6 +702,7 @@ fn search_files(
         output: output_file(rt),
         selection: files.selection,
         width: 0,
+        hides_controls: hides_controls(rt.stdout().is_terminal(), asked.what.zero_names),
     };
     match files.names {
         [] => {
@@ -775,6 +776,16 @@ fn search_texts(
     }
 }
 
+/// The patterns that are searched for, with their groups if matches are replaced.
+fn sought_of<'t>(rt: &HostRuntime, asked: &Asked, texts: &'t [&'t str]) -> LinePatterns<'t>
+    ensures { result ≡ (asked.now.how, map (λ t. t.now) texts.now) }
+{
+    if asked.what.replacement.is_some() {
+        return LinePatterns::with_groups(rt.alloc(), texts, &asked.how);
+    }
+    LinePatterns::new(rt.alloc(), texts, &asked.how)
+}
+
 /// Searches files for patterns. `texts` are the patterns in the syntax that is parsed.
 fn search_words(
     rt: &HostRuntime,
@@ -783,7 +794,7 @@ fn search_words(
     texts: &[&str],
     files: Files<'_>,
 ) -> Result<Outcome, AllocError> {
-    let sought = LinePatterns::new(rt.alloc(), texts, &asked.how);
+    let sought = sought_of(rt, asked, texts);
     search_texts(rt, asked, patterns, texts, &sought, files)
 }
 

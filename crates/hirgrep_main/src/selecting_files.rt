@@ -7,11 +7,12 @@ ghost use Rattle.std.specs.Str.{chars};
 ghost use Rattle.clap.specs.Words.{first_value, found_of};
 ghost use Rattle.globs.specs.Ignoring.{ignore_rules};
 ghost use Rattle.globs.specs.Paths.{without_dot};
-ghost use Rattle.globs.specs.Rules.{Rule as AnyRule, decided, excluded, folder_rule, glob_fault, glob_rule, grep_rule, rule_of};
+ghost use Rattle.globs.specs.Rules.{Rule as AnyRule, begins, decided, excluded, folder_rule, glob_fault, glob_rule, grep_rule, rule_of};
 ghost use Rattle.grep_options.specs.FileOptions.{file_values, given_of};
 ghost use Rattle.grep_options.specs.Options.{is_text, values_given};
 ghost use Rattle.hirgrep_main.specs.Selecting.{AreIgnored, IsGiven, are_sound, base_len, chosen_by, depth_in, enters, excluded_lines, folder_rules, glob_rules, is_sure, names_rules, rules_for, selection, selection_given, selection_without_rules, skips_entry};
 ghost use Rattle.hirgrep_main.specs.Selecting.{gives_globs, globs_given, globs_say, ignore_files, is_ignoring, is_git_folder, skips_found, skips_ignored, skips_named, skips_type, skips_unnamed, slashes, value_rules, values_rules, with_files, with_folders, with_globs, with_ignored, with_rules, with_types};
+ghost use Rattle.hirgrep_main.specs.Selecting.{gives_size, has_type, ignores_say, is_hidden, is_keeping, is_too_large, size_given, skips_hidden};
 ghost use Rattle.hirgrep_main.specs.Ignores.{ignoring_given};
 ghost use Rattle.hirgrep_main.specs.Selecting.{are_types, gives_types, named_types, types_given};
 ghost use Rattle.hirgrep_main.specs.FileTypes.{is_type, of_type, rows_of, type_rules};
@@ -26,7 +27,7 @@ use globs::{
     Fault, FaultKind, Rule, any_selects, chars_of, chooses, decides, file_name, push_excluded,
     push_ignore_rules, skips, without_dot,
 };
-use grep_options::{FileOption, FileValue, file_values, is_set, number};
+use grep_options::{FileOption, FileValue, file_values, is_set, number, size_of};
 use std::alloc::{AllocError, Global};
 use std::rt::Runtime;
 use std::{fs, io};
@@ -39,6 +40,8 @@ pub struct Ignoring {
     pub plain: bool,
     /// `.gitignore` and `.git/info/exclude`.
     pub git: bool,
+    /// Of these `.git/info/exclude`, too.
+    pub exclude: bool,
     /// Those of the folders above the ones that are searched.
     pub parents: bool,
     /// Those of git count in its work trees alone.
@@ -60,8 +63,12 @@ pub struct Selection {
     ignored: Vec<Rule>,
     /// Which ignore files of folders are read.
     pub ignoring: Ignoring,
+    /// What is hidden is left out.
+    hides: bool,
     /// How deep folders are searched.
     max_depth: Option<u64>,
+    /// How many bytes a file has at most that is searched.
+    pub max_size: Option<u64>,
     /// The names of files are printed, and nothing is searched.
     pub lists: bool,
     /// The names in a folder are put in order.
@@ -385,9 +392,47 @@ fn ignoring_of(matches: &ArgMatches<'_>) -> Ignoring
         reads: is_set(matches, "ignore"),
         plain: !is_set(matches, "no-ignore-dot"),
         git: !is_set(matches, "no-ignore-vcs"),
+        exclude: !is_set(matches, "no-ignore-exclude"),
         parents: !is_set(matches, "no-ignore-parent"),
         needs_tree: !is_set(matches, "no-require-git"),
     }
+}
+
+/// The greatest size of a file that is searched, if it is given.
+fn size_given(matches: &ArgMatches<'_>) -> Option<u64>
+    ensures { result ≡ size_given (found_of matches.now) }
+{
+    match matches.get_str("max-filesize") {
+        Some(text) => size_of(text),
+        None => None,
+    }
+}
+
+/// Whether no size is given that can't be read. If one is, this is reported.
+fn gives_size(rt: &HostRuntime, matches: &ArgMatches<'_>) -> bool
+    ensures { result ≡ gives_size (found_of matches.now) }
+{
+    let Some(text) = matches.get_str("max-filesize") else {
+        return true;
+    };
+    let is_size = size_of(text).is_some();
+    if !is_size {
+        let text = Shown(text);
+        let _ = eprintln!(rt;
+            "hirgrep: size {text}: this isn't digits, and then at most one of K, M and G, for less than 2^64 bytes"
+        );
+    }
+    is_size
+}
+
+/// The files of `--ignore-file`, unless they don't count.
+fn ignore_files<'m>(matches: &'m ArgMatches<'_>) -> &'m [&'m str]
+    ensures { map (λ n. n.now) result.now ≡ ignore_files (found_of matches.now) }
+{
+    if is_set(matches, "no-ignore-files") {
+        return &[];
+    }
+    matches.get_strs("ignore-file").unwrap_or(&[])
 }
 
 impl Selection {
@@ -402,7 +447,9 @@ impl Selection {
             types: Vec::new(alloc),
             ignored: Vec::new(alloc),
             ignoring: ignoring_of(matches),
+            hides: is_set(matches, "no-hidden"),
             max_depth: number(matches, "max-depth"),
+            max_size: size_given(matches),
             lists: is_set(matches, "files"),
             sorts: sorts(matches),
         }
@@ -459,7 +506,7 @@ impl Selection {
             × (selection self.new ≡ with_ignored (selection self.old) ignored))) }
         ensures sure { IfOk result (λ read. length (ignore_files (found_of matches.now)) ≡ 0 → read ≡ true) }
     {
-        let names = matches.get_strs("ignore-file").unwrap_or(&[]);
+        let names = ignore_files(matches);
         push_ignore_files(rt, asked, &mut self.ignored, names)
     }
 
@@ -588,6 +635,22 @@ impl Selection {
         decides(alloc, &self.ignored, is_folder, without_dot(&path))
     }
 
+    /// What all ignore files say of what is at a path, of which those of folders said this.
+    fn ignores_say(
+        &self,
+        alloc: Global,
+        said: Option<bool>,
+        is_folder: bool,
+        path: &str,
+    ) -> Result<Option<bool>, AllocError>
+        ensures { IfOk result (λ known. known ≡ ignores_say (selection self.now) said is_folder path.now) }
+    {
+        match said {
+            Some(is) => Ok(Some(is)),
+            None => self.files_say(alloc, is_folder, path),
+        }
+    }
+
     /// Whether what is at a path is to be ignored, of which the ignore files of folders said this.
     fn skips_ignored(
         &self,
@@ -601,16 +664,52 @@ impl Selection {
         if self.is_git_folder(alloc, path)? {
             return Ok(true);
         }
-        match said {
-            Some(is) => Ok(is),
-            None => {
-                let known = self.files_say(alloc, is_folder, path)?;
-                Ok(is_ignoring(known))
-            }
-        }
+        let known = self.ignores_say(alloc, said, is_folder, path)?;
+        Ok(is_ignoring(known))
     }
 
-    /// Whether ignore files or types of files leave out what is at a path.
+    /// Whether what is at a path is hidden.
+    fn is_hidden(&self, alloc: Global, path: &str) -> Result<bool, AllocError>
+        ensures { IfOk result (λ is. is ≡ is_hidden path.now) }
+    {
+        let path = chars_of(alloc, path)?;
+        Ok(begins_with_dot(file_name(&path)))
+    }
+
+    /// Whether files are chosen by their types, and what is at a path is one of them.
+    fn has_type(&self, alloc: Global, is_folder: bool, path: &str) -> Result<bool, AllocError>
+        ensures { IfOk result (λ is. is ≡ has_type (selection self.now) is_folder path.now) }
+    {
+        if self.types.is_empty() || is_folder {
+            return Ok(false);
+        }
+        let path = chars_of(alloc, path)?;
+        let known = decides(alloc, &self.types, false, file_name(&path))?;
+        Ok(is_ignoring(known))
+    }
+
+    /// Whether what is at a path is left out since it is hidden. The ignore files of folders said this of it.
+    fn skips_hidden(
+        &self,
+        alloc: Global,
+        said: Option<bool>,
+        is_folder: bool,
+        path: &str,
+    ) -> Result<bool, AllocError>
+        ensures { IfOk result (λ is. is ≡ skips_hidden (selection self.now) said is_folder path.now) }
+    {
+        if !self.hides || !self.is_hidden(alloc, path)? {
+            return Ok(false);
+        }
+        let known = self.ignores_say(alloc, said, is_folder, path)?;
+        if is_keeping(known) {
+            return Ok(false);
+        }
+        let is = self.has_type(alloc, is_folder, path)?;
+        Ok(!is)
+    }
+
+    /// Whether what is at a path is left out by ignore files, by types of files or since it is hidden.
     fn skips_unnamed(
         &self,
         alloc: Global,
@@ -623,7 +722,10 @@ impl Selection {
         if self.skips_ignored(alloc, said, is_folder, path)? {
             return Ok(true);
         }
-        self.skips_type(alloc, is_folder, path)
+        if self.skips_type(alloc, is_folder, path)? {
+            return Ok(true);
+        }
+        self.skips_hidden(alloc, said, is_folder, path)
     }
 
     /// Whether the types of files leave out what has this path, by its name.
@@ -638,17 +740,19 @@ impl Selection {
         Ok(!chosen)
     }
 
-    /// Whether what is at this path, which was found in a folder, is left out. The ignore files of folders said this of it.
+    /// Whether what is at this path, which was found in a folder and has this size, is left out. The ignore files of folders said this of
+    /// it.
     pub fn skips_found(
         &self,
         alloc: Global,
         said: Option<bool>,
         is_folder: bool,
+        size: Option<u64>,
         path: &str,
     ) -> Result<bool, AllocError>
-        ensures { IfOk result (λ is. is ≡ skips_found (selection self.now) said is_folder path.now) }
+        ensures { IfOk result (λ is. is ≡ skips_found (selection self.now) said is_folder size path.now) }
     {
-        if self.skips_entry(alloc, is_folder, path)? {
+        if is_too_large(self.max_size, size) || self.skips_entry(alloc, is_folder, path)? {
             return Ok(true);
         }
         match self.globs_say(alloc, is_folder, path)? {
@@ -688,6 +792,35 @@ fn chosen_by(known: Option<bool>, rules: &[Rule], is_folder: bool) -> Option<boo
         } else {
             None
         },
+    }
+}
+
+fn begins_with_dot(name: &[char]) -> bool
+    ensures { result ≡ begins 46 name.now }
+{
+    match name.first() {
+        Some(first) => *first == '.',
+        None => false,
+    }
+}
+
+/// Whether a file has more bytes than a file may have.
+fn is_too_large(most: Option<u64>, size: Option<u64>) -> bool
+    ensures { result ≡ is_too_large most size }
+{
+    match (most, size) {
+        (Some(most), Some(size)) => most < size,
+        _ => false,
+    }
+}
+
+/// Whether a rule of ignore files says that something isn't to be ignored.
+fn is_keeping(known: Option<bool>) -> bool
+    ensures { result ≡ is_keeping known }
+{
+    match known {
+        Some(is) => !is,
+        None => false,
     }
 }
 
@@ -748,6 +881,9 @@ pub fn selection_of(
     ensures sure { IfOk result (λ o. is_sure (found_of matches.now) (rows_of types.now) ≡ true → length (ignore_files (found_of matches.now)) ≡ 0
         → is_some o ≡ true) }
 {
+    if !gives_size(rt, matches) {
+        return Ok(None);
+    }
     let mut selection = Selection::new(rt.alloc(), matches);
     if !selection.add_rules(rt, asked, types, matches)? {
         return Ok(None);

@@ -1,11 +1,13 @@
-//! Names and other text in messages, without control characters.
-ghost use Rattle.std.specs.Prelude.{◌≡◌};
-ghost use Rattle.hirgrep_main.specs.Decisions.{shown_char};
+//! Names and other text in messages and at a terminal, without control characters.
+ghost use Rattle.std.specs.Prelude.{◌≡◌, IfOk, string_bytes};
+ghost use Rattle.hirgrep_main.specs.Decisions.{hides_controls, shown_char};
+ghost use Rattle.hirgrep_main.specs.Texts.{without_controls};
 
+use std::alloc::{AllocError, Global};
 use std::fmt;
 use std::fmt::Write;
 
-/// The character that a message has for this one: a question mark for a control character, as GNU `ls` has it.
+/// The character that is shown for this one: a question mark for a control character, as GNU `ls` has it.
 fn shown_char(c: char) -> char
     ensures { result ≡ shown_char c }
 {
@@ -37,4 +39,18 @@ impl<'a> fmt::Display for ShownLines<'a> {
         }
         Ok(())
     }
+}
+
+/// Whether control characters of names are hidden: if standard output is a terminal, and no zero bytes end names for a program.
+pub fn hides_controls(is_terminal: bool, zero_names: bool) -> bool
+    ensures { result ≡ hides_controls is_terminal zero_names }
+{
+    is_terminal && !zero_names
+}
+
+/// A name with a question mark for each control character.
+pub fn without_controls(alloc: Global, name: &str) -> Result<String, AllocError>
+    ensures { IfOk result (λ s. string_bytes s ≡ without_controls name.now) }
+{
+    name.chars().map(|c| shown_char(c)).collect(alloc)
 }

@@ -20,6 +20,8 @@ pub struct Task<'a> {
     pub selection: &'a Selection,
     /// The least number of columns for numbers.
     pub width: usize,
+    /// Names are printed with a question mark for each control character.
+    pub hides_controls: bool,
 }
 
 /// The name that is printed for the file at a path.

@@ -6,7 +6,7 @@ import resource
 import struct
 import subprocess
 
-SECONDS = 60
+SECONDS = int(os.environ.get("LONGEST", "60"))
 MEMORY = 2 << 30
 ENVIRONMENT = {"PATH": os.environ["PATH"], "LC_ALL": "C.UTF-8"}
 

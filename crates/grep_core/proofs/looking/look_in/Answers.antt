@@ -1,37 +1,51 @@
 use Rattle.std.proofs.Common.{◌≡◌, ◌∙◌, true, map, sym, ap, subst}
-use Rattle.grep_core.specs.Lines.{unended}
+use Rattle.std.specs.Prelude.{Bool}
+use Rattle.grep_core.specs.Lines.{SplitLine, searched}
 use Rattle.grep_core.specs.Printing.{span_pair}
-use Rattle.grep_core.specs.Searchers.{Sought, AreReported}
-use Rattle.grep_core.specs.Reporting.{needs_spans}
-use Rattle.grep_core.proofs.SeenLemmas.{none_found, none_needed, all_needed, progress_by, spans_by}
+use Rattle.grep_core.specs.Report.{ShownLine, as_it_is}
+use Rattle.grep_core.specs.Searchers.{Sought, AreReported, SearchesFor, found_by}
+use Rattle.grep_core.specs.Reporting.{needs_shown, needs_spans}
+use Rattle.grep_core.proofs.SeenLemmas.{none_shown, none_needed, all_needed, moved_by, progress_by, replaced_needed, spans_by, spans_needed}
+use Rattle.grep_core.proofs.SeenLemmas.{searched_by}
 use Rattle.grep_core.proofs.looking.look_in.Goals as goal
-use Rattle.grep_core.proofs.looking.look_in.Goals.{then-not-has-via-then-not-has, then-not-has-via-else-not-has+then-not-needs_spans}
+use Rattle.grep_core.proofs.looking.look_in.Goals.{then-not-has-via-then-not-has, then-not-has-via-else-not-has+then-not-needs_shown}
 
 pub returns-then-not-has-clause-has : goal.returns-then-not-has-clause-has
-returns-then-not-has-clause-has c by =
-    progress_by c.args.finder.now (needs_spans c.args.what.now) by c.args.line.now c.in-Ok.has c.in-Ok.ensures.reported
+returns-then-not-has-clause-has c ended is by =
+    searched_by c.args.finder.now (needs_spans c.args.what.now) by c.args.line.now (record { bytes = c.args.bytes.now; is_ended = ended }) c.in-Ok.has is
+    (progress_by c.args.finder.now (needs_spans c.args.what.now) by c.args.line.now c.in-Ok.has c.in-Ok.ensures.reported)
 
-pub returns-then-not-has-clause-found : goal.returns-then-not-has-clause-found
-returns-then-not-has-clause-found c by =
-    ap (map span_pair) c.new.ensures.items
+pub returns-then-not-has-clause-shown : goal.returns-then-not-has-clause-shown
+returns-then-not-has-clause-shown c ended is by =
+    let line : SplitLine = record { bytes = c.args.bytes.now; is_ended = ended } in
+    ap (λ found. as_it_is line (map span_pair found)) c.new.ensures.items
     ∙ elim c.then-not-has.branch [
       | then-not-has-via-then-not-has w ↦
-          sym (none_found c.args.what.now by.how by.patterns (unended c.args.line.now) c.in-Ok.has
-          (progress_by c.args.finder.now (needs_spans c.args.what.now) by c.args.line.now c.in-Ok.has c.in-Ok.ensures.reported)
+          sym (none_shown c.args.what.now by.how by.names by.patterns line c.in-Ok.has
+          (searched_by c.args.finder.now (needs_spans c.args.what.now) by c.args.line.now line c.in-Ok.has is
+          (progress_by c.args.finder.now (needs_spans c.args.what.now) by c.args.line.now c.in-Ok.has c.in-Ok.ensures.reported))
           w.if-not-has.true)
-      | then-not-has-via-else-not-has+then-not-needs_spans w ↦
-          sym (none_needed c.args.what.now by.how by.patterns (unended c.args.line.now) (sym w.needs_spans.ensures ∙
-          w.if-not-needs_spans.true))
+      | then-not-has-via-else-not-has+then-not-needs_shown w ↦
+          sym (none_needed c.args.what.now (found_by by) line (sym w.needs_shown.ensures ∙ w.if-not-needs_shown.true))
     ]
 
-pub returns-in-Ok-matches-clause-has : goal.returns-in-Ok-matches-clause-has
-returns-in-Ok-matches-clause-has c by =
-    progress_by c.args.finder.now (needs_spans c.args.what.now) by c.args.line.now c.in-Ok.has c.in-Ok.ensures.reported
+pub returns-in-Ok-replace_in-clause-has : goal.returns-in-Ok-replace_in-clause-has
+returns-in-Ok-replace_in-clause-has c ended is by =
+    searched_by c.args.finder.now (needs_spans c.args.what.now) by c.args.line.now (record { bytes = c.args.bytes.now; is_ended = ended }) c.in-Ok.has is
+    (progress_by c.args.finder.now (needs_spans c.args.what.now) by c.args.line.now c.in-Ok.has c.in-Ok.ensures.reported)
 
-pub returns-in-Ok-matches-clause-found : goal.returns-in-Ok-matches-clause-found
-returns-in-Ok-matches-clause-found c by =
-    let needs : needs_spans c.args.what.now ≡ true = sym c.needs_spans.ensures ∙ c.if-not-needs_spans.false in
-    all_needed c.args.what.now by.how by.patterns (unended c.args.line.now) (map span_pair c.in-Ok-matches.found.items) needs
-    (spans_by c.args.finder.now (needs_spans c.args.what.now) by c.args.line.now (map span_pair c.in-Ok-matches.found.items)
-    (subst (λ (s : Sought). s.spans ≡ true → AreReported s.how s.texts c.args.line.now (map span_pair c.in-Ok-matches.found.items))
-    c.has_match.ensures.same c.in-Ok-matches.ensures.reported (by.may needs)))
+pub returns-in-Ok-replace_in-clause-shown : goal.returns-in-Ok-replace_in-clause-shown
+returns-in-Ok-replace_in-clause-shown c ended is by =
+    let line : SplitLine = record { bytes = c.args.bytes.now; is_ended = ended } in
+    let shown : ShownLine = as_it_is (record { bytes = c.in-Ok-replace_in.field-0.bytes.items; is_ended = ended })
+    (map span_pair c.in-Ok-replace_in.field-0.spans.items) in
+    replaced_needed c.args.what.now (found_by by) line c.in-Some.template shown
+    (sym c.needs_shown.ensures ∙ c.if-not-needs_shown.false) c.in-Some.is
+    (subst (λ (s : Sought). c.args.line.now ≡ searched s.how.crlf line → (n : Bool) (by : SearchesFor s n) →
+    shown ≡ (found_by by).replaced c.in-Some.template.now line) c.has_match.ensures.same
+    (c.in-Ok-replace_in.ensures.replaced ended) is (needs_spans c.args.what.now) by)
+
+pub returns-in-Ok-matches-clause-has : goal.returns-in-Ok-matches-clause-has
+returns-in-Ok-matches-clause-has c ended is by =
+    searched_by c.args.finder.now (needs_spans c.args.what.now) by c.args.line.now (record { bytes = c.args.bytes.now; is_ended = ended }) c.in-Ok.has is
+    (progress_by c.args.finder.now (needs_spans c.args.what.now) by c.args.line.now c.in-Ok.has c.in-Ok.ensures.reported)

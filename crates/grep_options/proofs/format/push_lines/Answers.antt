@@ -8,4 +8,5 @@ returns c =
     let three = joined two c.in_ok-push_long-2.ensures in
     let four = joined three c.in_ok-push_max_columns.ensures in
     let five = joined four c.in_ok-push_long-3.ensures in
-    on_ok_weaker c.push_passthru.result (λ p. joined five p) c.push_passthru.ensures
+    let six = joined five c.in_ok-push_passthru.ensures in
+    on_ok_weaker c.push_replace.result (λ p. joined six p) c.push_replace.ensures

@@ -4,5 +4,5 @@ use Rattle.grep_options.proofs.options.push_accepted.Goals as goal
 
 pub returns : goal.returns
 returns c =
-    let two = joined c.in_ok-push_flag.ensures c.in_ok-push_long.ensures in
-    on_ok_weaker c.push_long-2.result (λ p. joined two p) c.push_long-2.ensures
+    let three = joined (joined c.in_ok-push_flag.ensures c.in_ok-push_long.ensures) c.in_ok-push_long-2.ensures in
+    on_ok_weaker c.push_encoding.result (λ p. joined three p) c.push_encoding.ensures

@@ -1,6 +1,7 @@
 use Rattle.std.proofs.Common.{ap}
 use Rattle.grep_core.specs.Searchers.{found_by}
 use Rattle.hirgrep_main.specs.Tasks.{count_of, report_in, whole_report_in}
+use Rattle.hirgrep_main.specs.Texts.{printed_name}
 use Rattle.hirgrep_main.proofs.OutcomeLemmas.{continues_as, continues_searched, searched_as}
 use Rattle.hirgrep_main.proofs.ReportLemmas.{counted_known}
 use Rattle.hirgrep_main.proofs.searching.search_reader.Goals as goal
@@ -12,8 +13,9 @@ returns-clause-came g c = (
   c.wrote.result,
   c.keep_search.ensures,
   counted_known (g.R.Read.remaining c.args.reader) _ _ _ c.report_one-reported.result
-      (λ by text. report_in c.args.task c.args.outcome.now (found_by by) c.args.name.now text)
-      (λ by text. whole_report_in c.args.task c.args.outcome.now (found_by by) c.args.name.now text) (λ by text. count_of c.args.task (found_by by) text)
+      (λ by text. report_in c.args.task c.args.outcome.now (found_by by) (printed_name c.args.task.hides_controls c.args.name.now) text)
+      (λ by text. whole_report_in c.args.task c.args.outcome.now (found_by by) (printed_name c.args.task.hides_controls c.args.name.now) text)
+      (λ by text. count_of c.args.task (found_by by) text)
       (ap g.R.Read.remaining c.new-reader.ensures.reader) c.report_one-reported.ensures.reported,
 )
 

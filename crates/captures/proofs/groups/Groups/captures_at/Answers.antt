@@ -1,6 +1,5 @@
-use Rattle.std.proofs.Common.{ap, length, subst, ◌∙◌}
+use Rattle.std.proofs.Common.{length, subst}
 use Rattle.meta_regex.specs.Regexes.{HasFoundSpan, HasPattern, config_by}
-use Rattle.group_finder.specs.Slots.{slots_of}
 use Rattle.captures.proofs.FoundLemmas.{captured}
 use Rattle.captures.proofs.groups.Groups.captures_at.Goals as goal
 
@@ -15,9 +14,7 @@ returns-in-Ok-write_slots-clause-found c =
     c.in-Ok-Some.ensures.found)
     (subst (HasPattern (config_by c.args.regex.now) c.args.regex.now.texts c.args.haystack.now) c.in-Ok-Some.field-0-is
     c.in-Ok-Some.ensures.pattern)
-    (λ res read first m span inside there.
-    c.in-Ok-write_slots.ensures.written c.args.regex.now.options c.args.regex.now.texts c.find.ensures.groups res read first m span inside
-    there ∙ ap (slots_of m) c.clear.auto.slots)
+    (c.in-Ok-write_slots.ensures.written c.args.regex.now.options c.args.regex.now.texts c.find.ensures.groups)
 
 pub returns-in-Err-write_slots-clause-refused : goal.returns-in-Err-write_slots-clause-refused
 returns-in-Err-write_slots-clause-refused c =

@@ -1,4 +1,5 @@
 use Rattle.std.proofs.Common.{◌∷◌, [], None, inr, refl}
+use Rattle.grep_core.specs.Replacing.{all_names}
 use Rattle.grep_core.proofs.BoundedTreeLemmas.{read_as}
 use Rattle.grep_core.proofs.finder.Finder.new.Goals as goal
 
@@ -12,7 +13,15 @@ invariant_of-result c = (
 pub returns-clause-searches : goal.returns-clause-searches
 returns-clause-searches c =
     let read = read_as c.args.patterns.now.0 c.args.patterns.now.1 c.in-Ok.tree.now c.in-Ok.ensures.tree in
-    record { may = λ asked. asked; how = c.args.patterns.now.0; same = refl; patterns = read.0; are_read = read.1 }
+    record {
+      may = λ asked. asked;
+      how = c.args.patterns.now.0;
+      same = refl;
+      patterns = read.0;
+      are_read = read.1;
+      names = all_names c.args.patterns.now.0 c.args.patterns.now.1;
+      named = refl;
+    }
 
 pub returns-in-Err-new-clause-refused : goal.returns-in-Err-new-clause-refused
 returns-in-Err-new-clause-refused c = inr (c.in-Ok.tree.now, c.in-Ok.ensures.tree, c.in-Err-new.ensures.refused)
