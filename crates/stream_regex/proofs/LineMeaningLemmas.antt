@@ -1,6 +1,7 @@
 -- Streams that read line by line report what the patterns match in each line.
 use Rattle.std.proofs.Common.{◌≡◌, ◌⊎◌, ◌↔◌, ◌∙◌, ◌+◌, ◌<◌, ◌||◌, ◌++◌, ◌==◌, ◌∷◌, ℕ, zero, suc, Bool, true, false, List, All, Option, Some, None, []}
-use Rattle.std.proofs.Common.{length, map, option_map, slice_get, refl, sym, ap, subst, inl, inr, ⊎_elim, if◌then◌else◌}
+use Rattle.std.proofs.Common.{length, map, option_map, slice_get, refl, sym, ap, subst, inl, inr, arith}
+use Rattle.std.specs.Prelude.{⊤}
 use Rattle.std.specs.List.{list_any}
 use Rattle.std.proofs.lemmas.List.Folds.{list_any-append}
 use Rattle.std.proofs.lemmas.Option.{none-some, same_Some}
@@ -69,9 +70,29 @@ into_moved i (e ∷ es) at pattern h =
 
 -- ---- lines
 
-all_pushed : (P : ℕ → Type 0) (xs : List ℕ) (b : ℕ) → All P xs → P b → All P (xs ++ b ∷ [])
-all_pushed P [] b all p = (p, tt)
-all_pushed P (x ∷ xs) b all p = (all.0, all_pushed P xs b all.1 p)
+-- what holds of each element, by the elements one after the other
+abbrev Each : {A : Type 0} → (A → Type 0) → List A → Type 0
+Each P [] = ⊤
+Each P (x ∷ xs) = P x × Each P xs
+
+module _ {A : Type 0} (P : A → Type 0) where
+  of_all : (xs : List A) → All P xs → Each P xs
+  of_all [] all = tt
+  of_all (x ∷ xs) all = (all 0 x (omega arith), of_all xs (λ k d l. all (suc k) d (omega (arith, l))))
+
+  to_all : (xs : List A) → Each P xs → All P xs
+  to_all [] each k d l = absurd (omega (arith, l))
+  to_all (x ∷ xs) each zero d l = each.0
+  to_all (x ∷ xs) each (suc k) d l = to_all xs each.1 k d (omega (arith, l))
+
+  one_of_each : (xs : List A) (n : ℕ) (x : A) → Each P xs → slice_get xs n ≡ Some x → P x
+  one_of_each [] n x each e = absurd (none-some x e)
+  one_of_each (y ∷ xs) zero x each e = subst P (same_Some y x e) each.0
+  one_of_each (y ∷ xs) (suc n) x each e = one_of_each xs n x each.1 e
+
+  each_pushed : (xs : List A) (x : A) → Each P xs → P x → Each P (xs ++ x ∷ [])
+  each_pushed [] x each p = (p, tt)
+  each_pushed (y ∷ xs) x each p = (each.0, each_pushed xs x each.1 p)
 
 ended : (t i b : ℕ) (read bs : List ℕ) → (b == t) ≡ true →
     lines_from t i read (b ∷ bs) ≡ (i, read) ∷ lines_from t (i + length read + 1) [] bs
@@ -82,28 +103,25 @@ goes_on : (t i b : ℕ) (read bs : List ℕ) → (b == t) ≡ false → lines_fr
 unfolding lines_from
 goes_on t i b read bs e = rw e refl
 
-all_by : (P : ℕ → Type 0) (t i b : ℕ) (read bs : List ℕ) (v : Bool) → (b == t) ≡ v → All P read →
-    All (λ (l : ℕ × List ℕ). All P l.1) (lines_from t (i + length read + 1) [] bs) →
-    All (λ (l : ℕ × List ℕ). All P l.1) (lines_from t i (read ++ b ∷ []) bs) →
-    All (λ (l : ℕ × List ℕ). All P l.1) (lines_from t i read (b ∷ bs))
-all_by P t i b read bs true e all next more =
-    subst (λ (ls : List (ℕ × List ℕ)). All (λ (l : ℕ × List ℕ). All P l.1) ls) (sym (ended t i b read bs e)) (all, next)
-all_by P t i b read bs false e all next more =
-    subst (λ (ls : List (ℕ × List ℕ)). All (λ (l : ℕ × List ℕ). All P l.1) ls) (sym (goes_on t i b read bs e)) more
+abbrev HasInLines : (ℕ → Type 0) → List (ℕ × List ℕ) → Type 0
+HasInLines P ls = Each (λ (l : ℕ × List ℕ). Each P l.1) ls
+
+lines_by : (P : ℕ → Type 0) (t i b : ℕ) (read bs : List ℕ) (v : Bool) → (b == t) ≡ v → Each P read →
+    HasInLines P (lines_from t (i + length read + 1) [] bs) → HasInLines P (lines_from t i (read ++ b ∷ []) bs) →
+    HasInLines P (lines_from t i read (b ∷ bs))
+lines_by P t i b read bs true e each next more =
+    subst (λ (ls : List (ℕ × List ℕ)). HasInLines P ls) (sym (ended t i b read bs e)) (each, next)
+lines_by P t i b read bs false e each next more =
+    subst (λ (ls : List (ℕ × List ℕ)). HasInLines P ls) (sym (goes_on t i b read bs e)) more
 
 -- what holds of all bytes of an input holds of those of each line
-all_lines : (P : ℕ → Type 0) (t i : ℕ) (read bs : List ℕ) → All P read → All P bs → All (λ (l : ℕ × List ℕ). All P l.1) (lines_from t i read bs)
+in_lines : (P : ℕ → Type 0) (t i : ℕ) (read bs : List ℕ) → Each P read → Each P bs → HasInLines P (lines_from t i read bs)
 unfolding lines_from
-all_lines P t i [] [] all rest = tt
-all_lines P t i (c ∷ read) [] all rest = (all, tt)
-all_lines P t i read (b ∷ bs) all rest =
-    all_by P t i b read bs (b == t) refl all (all_lines P t (i + length read + 1) [] bs tt rest.1)
-    (all_lines P t i (read ++ b ∷ []) bs (all_pushed P read b all rest.0) rest.1)
-
-one_of_all : (P : ℕ × List ℕ → Type 0) (ls : List (ℕ × List ℕ)) (n : ℕ) (l : ℕ × List ℕ) → All P ls → slice_get ls n ≡ Some l → P l
-one_of_all P [] n l all e = absurd (none-some l e)
-one_of_all P (x ∷ ls) zero l all e = subst P (same_Some x l e) all.0
-one_of_all P (x ∷ ls) (suc n) l all e = one_of_all P ls n l all.1 e
+in_lines P t i [] [] each rest = tt
+in_lines P t i (c ∷ read) [] each rest = (each, tt)
+in_lines P t i read (b ∷ bs) each rest =
+    lines_by P t i b read bs (b == t) refl each (in_lines P t (i + length read + 1) [] bs tt rest.1)
+    (in_lines P t i (read ++ b ∷ []) bs (each_pushed P read b each rest.0) rest.1)
 
 -- ---- what searches of each line report
 
@@ -176,10 +194,15 @@ module _ (d : Dfa) (quiet : (l : List ℕ) → (rest_of_stream d fresh_stream l)
       (end pattern : ℕ) where
     module _ (n : ℕ) (l : ℕ × List ℕ) (is : slice_get (lines_in 10 h) n ≡ Some l) where
       bytes_of : All (λ b. b < 256) l.1
-      bytes_of = one_of_all (λ (x : ℕ × List ℕ). All (λ b. b < 256) x.1) (lines_in 10 h) n l (all_lines (λ b. b < 256) 10 0 [] h tt bytes) is
+      bytes_of =
+          to_all (λ b. b < 256) l.1
+          (one_of_each (λ (x : ℕ × List ℕ). Each (λ b. b < 256) x.1) (lines_in 10 h) n l
+          (in_lines (λ b. b < 256) 10 0 [] h tt (of_all (λ b. b < 256) h bytes)) is)
 
       valid_of : utf8 ≡ true → IsValidText l.1
-      valid_of u = one_of_all (λ (x : ℕ × List ℕ). IsValidText x.1) (lines_in 10 h) n l (valid u) is
+      valid_of u =
+          one_of_each (λ (x : ℕ × List ℕ). IsValidText x.1) (lines_in 10 h) n l
+          (of_all (λ (x : ℕ × List ℕ). IsValidText x.1) (lines_in 10 h) (valid u)) is
 
     reported : Has same_pair (end, pattern) (rest_of_each d (lines_in 10 h)).ends → IsEndOfLine utf8 res h end pattern
     reported has =

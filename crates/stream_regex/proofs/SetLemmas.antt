@@ -6,9 +6,10 @@ use Rattle.std.proofs.lemmas.Option.{none-some}
 use Rattle.lazy_dfa.specs.Dfas.{Dfa}
 use Rattle.streams.specs.Streams.{IsStreamOf}
 use Rattle.streams.specs.declared.errors.StreamError.{StreamError}
+use Rattle.streams.specs.declared.feeding.Fed.{Fed}
 use Rattle.streams.specs.declared.stream.Stream.{Stream}
 use Rattle.streams.specs.declared.stream.StreamMatch.{StreamMatch}
-use Rattle.stream_regex.specs.Sets.{AreStreamsOf, IsClosedAt, IsClosedIn, IsSetAt, SetValue, stream_at}
+use Rattle.stream_regex.specs.Sets.{AreStreamsOf, IsClosedAt, IsClosedIn, IsFedAt, IsFedIn, IsSetAt, SetValue, stream_at}
 
 abbrev Streams : Type 0
 Streams = List (Option Stream)
@@ -71,4 +72,15 @@ closed_at old new n s t mid rows after count r dfa lines is out in_again closed 
   now = t;
   set = put_back old new n s t mid dfa lines is out in_again;
   closed = closed;
+}
+
+pub fed_at : (old new : SetValue) (n : ℕ) (s t : Stream) (mid : Streams) (bytes : List ℕ) (rows after : List StreamMatch) (f : Fed)
+    (r : Result ⊤ StreamError) → new.dfa ≡ old.dfa → new.lines ≡ old.lines → stream_at old.streams n ≡ Some s → mid ≡ slice_set old.streams n None →
+    new.streams ≡ slice_set mid n (Some t) → IsFedIn old.lines old.dfa s t bytes rows after f r → IsFedAt old new n bytes rows after f r
+fed_at old new n s t mid bytes rows after f r dfa lines is out in_again fed = record {
+  before = s;
+  is = is;
+  now = t;
+  set = put_back old new n s t mid dfa lines is out in_again;
+  fed = fed;
 }

@@ -2,7 +2,7 @@
 use Rattle.std.specs.Prelude.{◌≡◌, ◌≢◌, ℕ, Bool, true, false, List, [], All, Option, Some, None, IfSome, Result, ⊤}
 use Rattle.std.specs.List.{slice_get}
 use Rattle.lazy_dfa.specs.Dfas.{Dfa}
-use Rattle.streams.specs.Streams.{IsStreamOf, fresh_stream}
+use Rattle.streams.specs.Streams.{IsStreamOf}
 use Rattle.streams.specs.Feeding.{IsFed, IsStreamClosed}
 use Rattle.streams.specs.LineCalls.{AreLinesClosed, AreLinesFed}
 use Rattle.streams.specs.declared.errors.StreamError.{StreamError}

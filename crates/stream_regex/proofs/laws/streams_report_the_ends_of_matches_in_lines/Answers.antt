@@ -1,4 +1,4 @@
-use Rattle.std.proofs.Common.{◌≡◌, ◌↔◌, ◌∙◌, None, ap, subst, sym}
+use Rattle.std.proofs.Common.{◌↔◌, ◌∙◌, ap, subst, sym}
 use Rattle.lazy_dfa.specs.Overlapping.{Rest}
 use Rattle.nfa_core.specs.Places.{same_pair}
 use Rattle.nfa_core.specs.Walks.{Has}

@@ -1,4 +1,4 @@
-use Rattle.std.proofs.Common.{◌≡◌, ◌∙◌, refl, subst, sym}
+use Rattle.std.proofs.Common.{◌∙◌, refl, subst, sym}
 use Rattle.lazy_dfa.specs.Caches.{IsCacheOf}
 use Rattle.lazy_dfa.specs.Dfas.{Dfa}
 use Rattle.streams.specs.Streams.{IsStreamOf}

@@ -1,4 +1,4 @@
-use Rattle.std.proofs.Common.{◌≡◌, ◌≢◌, ◌∙◌, None, Some, refl, subst, sym}
+use Rattle.std.proofs.Common.{◌≢◌, ◌∙◌, None, refl, subst, sym}
 use Rattle.stream_regex.specs.Sets.{IsSetAt, SetValue, stream_at}
 use Rattle.stream_regex.proofs.SetLemmas.{taken_out}
 use Rattle.stream_regex.proofs.set.StreamSet.remove.Goals as goal

@@ -1,4 +1,4 @@
-use Rattle.std.proofs.Common.{◌≡◌, ◌≢◌, ◌∙◌, None, Option, Some, ap, refl, slice_set, subst, sym}
+use Rattle.std.proofs.Common.{◌≢◌, ◌∙◌, None, Some, ap, refl, slice_set, subst, sym}
 use Rattle.streams.specs.Streams.{fresh_stream}
 use Rattle.streams.specs.declared.stream.Stream.{Stream}
 use Rattle.stream_regex.specs.Sets.{IsSetAt, SetValue, stream_at}
