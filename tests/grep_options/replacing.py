@@ -78,8 +78,9 @@ CHOICES = [["-n"], ["-b"], ["--column"], ["--trim"], ["-i"], ["-x"], ["-v"], ["-
 
 def random_case(rng):
     options = [word for it in CHOICES if rng.random() < 0.2 for word in it]
-    if "-o" in options or "--passthru" in options or "-m1" in options or "-m2" in options:
-        options = [it for it in options if it not in ("-v", "-A1", "-B2", "--passthru" if "-o" in options else "")]
+    is_cut = "-o" in options or "-m1" in options or "-m2" in options
+    if is_cut or "--passthru" in options:
+        options = [it for it in options if it not in ("-v", "-A1", "-B2", "--passthru" if is_cut else "")]
     end = b"\r\n" if "--crlf" in options else b"\n"
     data = b"".join(bytes(rng.choice(b"abxAB \t\xff") for _ in range(rng.randrange(7))) + end for _ in range(rng.randrange(1, 6)))
     return rng.choice(PATTERNS), rng.choice(TEMPLATES), options, data
