@@ -21,6 +21,7 @@ QUIRKS = {
     'lines': "a pattern that can't match a line feed is searched line by line, without line ends: so none of its empty matches is between a carriage return and a line feed",
     'last': "an empty match at the end of a last line without a line feed isn't seen",
     'after': "a match after the last line feed has context lines before it",
+    'hidden': "with --vimgrep the lines of a match after its first one aren't context lines either",
     'limit': "-m counts blocks of matches, and not lines",
     'invert': "with -v the search goes on after the lines of a match, so the next match isn't seen that begins in its last line",
     'alone': "with -v each context line is searched by itself for the matches that are marked in it",
@@ -144,6 +145,8 @@ def report(patterns, text, o, quirks=frozenset()):
         if not inv: touched = [any(a <= i < b for a, b, _ in blocks) for i in range(len(lines))]
         elif 'invert' in q: touched = seen
     wanted = [t != inv for t in touched]
+    if o.get('vimgrep') and not inv and not (multi and 'hidden' in quirks):  # a line is selected if a match begins in it
+        wanted = [t and any(begins_in(s, line) for s, e in found) for t, line in zip(touched, lines)]
     if 'limit' in q and o.get('m') is not None and not inv:
         sel = [False] * len(lines)
         for a, b, _ in blocks[:o['m']]:
@@ -233,15 +236,15 @@ def report(patterns, text, o, quirks=frozenset()):
                 if not part and not ('empty' in q and not multi): continue
                 if is_long(len(part)): out += fields(column, offset) + omission(0) + b'\n'
                 else: out += fields(column, offset) + red(part[drop:]) + b'\n'
-        elif o.get('vimgrep') and has_marks and (any(begins_in(m[0], line) for m in mine) if beside else mine or (block and block[2])):
+        elif o.get('vimgrep') and has_marks and (mine or (block and block[2])):
             for (s, e), (ms, me) in zip(spans, mine):
-                first = next(k for k in range(len(lines)) if begins_in(ms, lines[k]))
+                first = i if beside else next(k for k in range(len(lines)) if begins_in(ms, lines[k]))
                 if first != i and not ('long' in q and not beside and all(is_long(whole(lines[k])) for k in range(first, i))): continue
                 if 'start' in q and ms == me == place and not beside: continue
                 offset = place if 'vimgrep' in q and not beside else place + s
                 out += fields(s + 1, offset) + body([(s, e)], 1 if 'omitted' in q and block and False else shown) + b'\n'
         else:
-            column = spans[0][0] + 1 if spans and not (o.get('vimgrep') and has_marks) else None
+            column = spans[0][0] + 1 if spans else None
             if 'column' in q and block and spans is not None and has_marks and not inv:
                 column = block[2][0][0] - lines[block[0]][1] + 1 if block[2] else None
             out += fields(column, place) + body(spans if o.get('color') else [], shown) + b'\n'
