@@ -185,7 +185,7 @@ fn add_glob<'a>(
     glob: &'a str,
 ) -> Result<bool, AllocError>
     ensures is { IfOk result (λ is. is ≡ may_be_added name.now glob.now) }
-    ensures rows { IfOk result (λ is. is ≡ true → rows_of rows.new.items ≡ with_row (row_of (name, glob)) (rows_of rows.old.items)) }
+    ensures rows { IfOk result (λ is. is ≡ true → rows_of rows.new.items ≡ with_row (record { name = name.now; glob = glob.now }) (rows_of rows.old.items)) }
 {
     if !may_be_added(alloc, name, glob)? {
         return Ok(false);
