@@ -1067,7 +1067,7 @@ static inline int match_clear(PyObject *self)
     Py_CLEAR(match->haystack);
     Py_CLEAR(match->regex);
     Py_CLEAR(match->finder);
-    if (match->offsets != match->few)
+    if (match->offsets && match->offsets != match->few)
         free(match->offsets);
     match->offsets = NULL;
     return 0;

@@ -3,7 +3,7 @@ ghost use Rattle.std.specs.Prelude.{◌≡◌, ◌++◌, IfSome};
 ghost use Rattle.grep_core.specs.Reporting.{needs_spans};
 ghost use Rattle.grep_core.specs.Searchers.{SearchesFor, found_by};
 ghost use Rattle.hirgrep_main.specs.Binaries.{has_zero, searched_bytes};
-ghost use Rattle.hirgrep_main.specs.Texts.{printed_name};
+ghost use Rattle.hirgrep_main.specs.Texts.{printed_name, without_controls};
 ghost use Rattle.hirgrep_main.specs.Tasks.{IsInputReported, count_for, count_of, report_for, report_in, whole_report_for, whole_report_in};
 
 use crate::binary::{Binary, is_noticed};
@@ -130,6 +130,37 @@ fn report_named<R: Read, W: Write>(
     }
 }
 
+/// Searches the input of a reader, and writes the output for it under this name without its control characters.
+fn report_hidden<R: Read, W: Write>(
+    rt: &HostRuntime,
+    finder: &mut Finder<'_>,
+    task: Task<'_>,
+    outcome: Outcome,
+    name: &str,
+    reader: &mut R,
+    writer: &mut Headed<W>,
+) -> Result<u64, Fault>
+    ensures same { finder.new ≡ finder.old }
+    ensures reported { (by : SearchesFor finder.old (needs_spans task.entry.asked.now.what)) → IfSome (R.remaining reader.old) (λ text.
+        IsInputReported (W.contents writer.old.writer) (W.contents writer.new.writer) result
+        (report_in task.entry outcome (found_by by) (without_controls name.now) text)
+        (whole_report_in task.entry outcome (found_by by) (without_controls name.now) text)
+        (count_of task.entry (found_by by) text)) }
+{
+    match without_controls(rt.alloc(), name) {
+        Ok(shown) => report_named(
+            rt,
+            finder,
+            task,
+            outcome,
+            shown.as_str(),
+            reader,
+            writer,
+        ),
+        Err(_) => Err(Fault::NoMemory),
+    }
+}
+
 /// Searches the input of a reader, and writes the output for it under this name, whose control characters may be hidden.
 pub fn report_one<R: Read, W: Write>(
     rt: &HostRuntime,
@@ -147,11 +178,8 @@ pub fn report_one<R: Read, W: Write>(
         (whole_report_in task.entry outcome (found_by by) (printed_name task.entry.hides_controls name.now) text)
         (count_of task.entry (found_by by) text)) }
 {
-    if !task.hides_controls {
-        return report_named(rt, finder, task, outcome, name, reader, writer);
+    if task.hides_controls {
+        return report_hidden(rt, finder, task, outcome, name, reader, writer);
     }
-    match without_controls(rt.alloc(), name) {
-        Ok(shown) => report_named(rt, finder, task, outcome, shown.as_str(), reader, writer),
-        Err(_) => Err(Fault::NoMemory),
-    }
+    report_named(rt, finder, task, outcome, name, reader, writer)
 }

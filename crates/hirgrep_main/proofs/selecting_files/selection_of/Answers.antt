@@ -6,7 +6,7 @@ use Rattle.hirgrep_main.proofs.selecting_files.selection_of.Goals as goal
 
 pub returns-clause-rules : goal.returns-clause-rules
 returns-clause-rules c =
-    let chosen = c.in_ok-add_rules.ensures.rules c.if-not-branch-2.false in
-    let ignored = c.in_ok-add_ignored.ensures.rules c.if-not-branch-3.false in
+    let chosen = c.in_ok-add_rules.ensures.rules c.if-not-branch.false in
+    let ignored = c.in_ok-add_ignored.ensures.rules c.if-not-branch-2.false in
     let given = chosen.1 ∙ ap (λ s. with_rules s (found_of c.args.matches.now) (rows_of c.args.types.now) chosen.0) c.new-selection.ensures in
     (chosen.0, (ignored.0, (ignored.1.0, ignored.1.1 ∙ ap (λ s. with_ignored s ignored.0) given)))
