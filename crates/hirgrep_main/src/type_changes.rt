@@ -42,7 +42,7 @@ fn is_cleared(names: &[&str], row: &(&str, &str)) -> bool
 /// The rows that aren't of these types.
 fn types_kept<'a>(
     alloc: Global,
-    types: &[(&'a str, &'a str)],
+    types: &[(&'static str, &'static str)],
     names: &[&str],
 ) -> Result<Vec<(&'a str, &'a str)>, AllocError>
     ensures { IfOk result (λ v. rows_of v.items ≡ types_kept (map (λ n. n.now) names.now) (rows_of types.now)) }
@@ -50,7 +50,7 @@ fn types_kept<'a>(
     let mut rows = Vec::new(alloc);
     for row in types {
         if !is_cleared(names, row) {
-            rows.push(*row)?;
+            rows.push((row.0, row.1))?;
         }
     }
     Ok(rows)
@@ -264,7 +264,7 @@ fn add_all<'a>(
 /// The types as options change them. Returns none after reporting a definition that can't be read.
 pub fn types_changed<'a>(
     rt: &HostRuntime,
-    types: &[(&'a str, &'a str)],
+    types: &[(&'static str, &'static str)],
     matches: &ArgMatches<'a>,
 ) -> Result<Option<Vec<(&'a str, &'a str)>>, AllocError>
     ensures some { IfOk result (λ o. IfSome o (λ v. rows_of v.items ≡ types_changed (found_of matches.now) (rows_of types.now))) }
