@@ -142,7 +142,7 @@ def rg_json(pats, texts, o, folder):
         if o.get(k) is not None: args += ['-' + k, str(o[k])]
     for p in pats: args += ['-e', p.decode()]
     args += ['--'] + [name for name, _ in texts]
-    r = subprocess.run(args, cwd=folder, capture_output=True, timeout=20)
+    r = subprocess.run(args, cwd=folder, capture_output=True, timeout=200)
     if r.returncode == 101: return None  # it panicked
     if r.returncode not in (0, 1): raise SystemExit((args, r.stderr))
     out = r.stdout

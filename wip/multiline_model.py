@@ -39,8 +39,7 @@ def find(rx, text, at, strips, reverse):
     if not m: return None
     s, e = m.span()
     if reverse and s > at:
-        m = rx.match(text[at:])
-        if m and at + m.end() == e: s = at
+        if rx.fullmatch(text[at:], 0, e - at): s = at
     return (s, e - 1) if strips and e > s and text[e - 1:e] == b'\r' else (s, e)
 
 def matches(rx, text, start=0, strips=False, reverse=False):
@@ -363,7 +362,7 @@ def rg_output(pats, text, o, folder):
     args = ['rg'] + words(o)
     for p in pats: args += ['-e', p.decode()]
     args.append('f')
-    r = subprocess.run(args, cwd=folder, capture_output=True, timeout=20)
+    r = subprocess.run(args, cwd=folder, capture_output=True, timeout=200)
     if r.returncode == 101: return None  # it panicked
     if r.returncode not in (0, 1): raise SystemExit((args, r.stderr))
     return r.stdout
