@@ -160,8 +160,8 @@ pub extern "C" fn hanneddois_stream_clone(
     }
 }
 
-/// Feeds a piece to the stream with a number, which reads lines if the set was made with that flag. Writes how many of its bytes were taken, and how many ends were written to the first rows. The
-/// status is 0, or an error:
+/// Feeds a piece to the stream with a number, which reads lines if the set was made with that flag. Writes how many of its bytes were
+/// taken, and how many ends were written to the first rows. The status is 0, or an error:
 ///
 /// - 2: there is no such stream, or the handle is empty.
 /// - 3: memory ran out.

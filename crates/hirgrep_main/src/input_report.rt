@@ -148,15 +148,7 @@ fn report_hidden<R: Read, W: Write>(
         (count_of task.entry (found_by by) text)) }
 {
     match without_controls(rt.alloc(), name) {
-        Ok(shown) => report_named(
-            rt,
-            finder,
-            task,
-            outcome,
-            shown.as_str(),
-            reader,
-            writer,
-        ),
+        Ok(shown) => report_named(rt, finder, task, outcome, shown.as_str(), reader, writer),
         Err(_) => Err(Fault::NoMemory),
     }
 }

@@ -177,7 +177,7 @@ fn print_types(rt: &HostRuntime, matches: &ArgMatches<'_>) -> Result<u8, AllocEr
     }
 }
 
-/// Runs the search that the options ask for, with these texts, and returns the exit status.
+/// Runs the search that the options ask for, with these names and separators, and returns the exit status.
 fn run_with<'a>(
     rt: &HostRuntime,
     matches: &'a ArgMatches<'_>,
