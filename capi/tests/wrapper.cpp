@@ -461,12 +461,12 @@ static void allocations_may_fail()
 }
 
 /* The pairs of pattern and end, as "pattern:end ". */
-static std::string told_of(const std::vector<hanneddois::stream_end> &ends)
+static std::string text_of(const std::vector<hanneddois::stream_end> &ends)
 {
-    std::string told;
+    std::string reported;
     for (const hanneddois::stream_end &each : ends)
-        told += std::to_string(each.pattern) + ':' + std::to_string(each.end) + ' ';
-    return told;
+        reported += std::to_string(each.pattern) + ':' + std::to_string(each.end) + ' ';
+    return reported;
 }
 
 static void streams_report_ends()
@@ -475,17 +475,17 @@ static void streams_report_ends()
     const std::string_view input = "xabb b";
     for (std::size_t i = 0; i <= input.size(); i++) {
         hanneddois::stream first = set.open();
-        std::string told = told_of(first.feed(input.substr(0, i)));
+        std::string reported = text_of(first.feed(input.substr(0, i)));
         hanneddois::stream second = first.clone();
         first.feed("zab");
         first.reset();
         CHECK(first.position() == 0 && second.position() == i);
-        second.feed_each(input.substr(i), [&](const hanneddois::stream_end &each) { told += told_of({each}); });
-        told += told_of(second.close());
-        CHECK(told == "0:3 0:4 1:6 2:6 " && second.position() == input.size());
+        second.feed_each(input.substr(i), [&](const hanneddois::stream_end &each) { reported += text_of({each}); });
+        reported += text_of(second.close());
+        CHECK(reported == "0:3 0:4 1:6 2:6 " && second.position() == input.size());
         CHECK_THROWS(second.feed("a"), error.status() == status::closed);
         CHECK_THROWS(second.close(), error.status() == status::closed);
-        CHECK(told_of(first.feed("ab")).empty() && told_of(first.close()) == "0:2 2:2 ");
+        CHECK(text_of(first.feed("ab")).empty() && text_of(first.close()) == "0:2 2:2 ");
     }
     hanneddois::stream kept;
     {
@@ -493,7 +493,7 @@ static void streams_report_ends()
         kept = shorter.open();
         CHECK(shorter.memory_usage() > 0 && !shorter.empty());
     }
-    CHECK(told_of(kept.feed("aab")) == "0:1 0:2 " && told_of(kept.close()).empty());
+    CHECK(text_of(kept.feed("aab")) == "0:1 0:2 " && text_of(kept.close()).empty());
     kept.reset();
     CHECK(kept.feed(std::string(3000, 'a')).size() == 2999 && kept.position() == 3000);
 }
@@ -504,12 +504,12 @@ static void streams_of_lines()
     const std::string_view input = "b\nab\n\nb";
     for (std::size_t i = 0; i <= input.size(); i++) {
         hanneddois::stream first = set.open();
-        std::string told = told_of(first.feed(input.substr(0, i)));
+        std::string reported = text_of(first.feed(input.substr(0, i)));
         hanneddois::stream second = first.clone();
         first.feed("b\n");
-        told += told_of(second.feed(input.substr(i)));
-        told += told_of(second.close());
-        CHECK(told == "0:1 1:1 1:4 0:7 1:7 " && second.position() == input.size());
+        reported += text_of(second.feed(input.substr(i)));
+        reported += text_of(second.close());
+        CHECK(reported == "0:1 1:1 1:4 0:7 1:7 " && second.position() == input.size());
     }
 }
 
