@@ -1,24 +1,15 @@
 -- The first line of a haystack, and its last one.
-use Rattle.std.proofs.Common.{◌≡◌, ◌≤◌, ◌<◌, ℕ, zero, suc, ◌+◌, ◌==◌, Bool, true, false, not, cond, List, [], ◌∷◌, ◌++◌, length, take, drop}
-use Rattle.std.proofs.Common.{drop-drop, append-nil, nat_eq, Some, None, nat_lt, if◌then◌else◌, refl, sym, ap, ap₂, ◌∙◌, subst, arith}
-use Rattle.std.proofs.lemmas.Option.{none-some, same_Some}
+use Rattle.std.proofs.Common.{◌≡◌, ◌≤◌, ◌<◌, ℕ, zero, suc, ◌+◌, Bool, true, false, cond, List, [], ◌∷◌, ◌++◌, length, take, drop}
+use Rattle.std.proofs.Common.{drop-drop, append-nil, nat_eq, Some, None, nat_lt, if◌then◌else◌, refl, sym, ap, ap₂, ◌∙◌, arith}
+use Rattle.std.proofs.lemmas.Option.{none-some}
 use Rattle.std.proofs.lemmas.Bool.{ltb-true, ltb-false}
 use Rattle.std.specs.List.{position, position_or_len}
-use Rattle.grep_core.specs.Lines.{SplitLine, ended, put_first, split_lines, unended}
-
-abbrev pub is_feed : ℕ → Bool
-is_feed b = b == 10
-
-pub first_at : (x : ℕ) (xs : List ℕ) (v : Bool) → is_feed x ≡ v →
-    position_or_len is_feed (x ∷ xs) ≡ cond (not v) (1 + position_or_len is_feed xs) 0
-first_at x xs v e = ap (λ b. cond (not b) (1 + position_or_len is_feed xs) 0) e
+use Rattle.line_search.specs.Lines.{SplitLine, ended, put_first, split_lines, unended}
+use Rattle.line_search.proofs.ForCallers.{is_feed, first_at, one_more, some_at}
 
 by_first : (x : ℕ) (xs more : List ℕ) (v : Bool) → is_feed x ≡ v →
     split_lines (x ∷ (xs ++ more)) ≡ (if v then ended [] ∷ split_lines (xs ++ more) else put_first x (split_lines (xs ++ more)))
 by_first x xs more v e = ap (λ b. if b then ended [] ∷ split_lines (xs ++ more) else put_first x (split_lines (xs ++ more))) e
-
-pub one_more : (n : ℕ) → 1 + n ≡ suc n
-one_more n = omega arith
 
 two_more : (n : ℕ) → (1 + n) + 1 ≡ suc (n + 1)
 two_more n = omega arith
@@ -44,21 +35,12 @@ cut : (text more : List ℕ) → position_or_len is_feed text < length text → 
 cut [] more few = absurd (omega (arith, few))
 cut (x ∷ xs) more few = cut_by x xs more (cut xs more) (is_feed x) refl few
 
-pub some_at : (b : Bool) (k n : ℕ) → cond b (Some k) None ≡ Some n → (b ≡ true) × (k ≡ n)
-some_at true k n e = (refl, same_Some k n e)
-some_at false k n e = absurd (none-some n e)
-
 pub first_line : (text more : List ℕ) (n : ℕ) → position is_feed text ≡ Some n →
     split_lines (text ++ more) ≡ ended (take n text) ∷ split_lines (drop (n + 1) text ++ more)
 first_line text more n e =
     let at = some_at (nat_lt (position_or_len is_feed text) (length text)) (position_or_len is_feed text) n e in
     cut text more (ltb-true (position_or_len is_feed text) (length text) at.0)
     ∙ ap (λ k. ended (take k text) ∷ split_lines (drop (k + 1) text ++ more)) at.1
-
-pub first_within : (text : List ℕ) (n : ℕ) → position is_feed text ≡ Some n → n < length text
-first_within text n e =
-    let at = some_at (nat_lt (position_or_len is_feed text) (length text)) (position_or_len is_feed text) n e in
-    subst (λ k. k < length text) at.1 (ltb-true (position_or_len is_feed text) (length text) at.0)
 
 none_at : (b : Bool) (k : ℕ) → cond b (Some k) None ≡ None → b ≡ false
 none_at true k e = absurd (none-some k (sym e))

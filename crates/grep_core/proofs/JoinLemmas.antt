@@ -2,38 +2,19 @@
 use Rattle.std.proofs.Common.{◌≡◌, ◌≢◌, ◌≤◌, ◌<◌, inl, inr, ℕ, zero, suc, ◌+◌, ◌-◌, Bool, true, false, cond, List, [], ◌∷◌, ◌++◌, length}
 use Rattle.std.proofs.Common.{take, drop, slice_get, slice_range, Some, None, nat_lt}
 use Rattle.std.proofs.Common.{refl, sym, ap, ◌∙◌, subst, arith, append_assoc, take-append-drop, length-append, length-drop}
-use Rattle.std.proofs.lemmas.Bool.{cases_lt, ltb-true, eqb-true}
+use Rattle.std.proofs.lemmas.Bool.{cases_lt, ltb-true}
 use Rattle.std.proofs.lemmas.List.{length-take-le}
 use Rattle.std.proofs.lemmas.List.Folds.{drop_split}
 use Rattle.std.proofs.lemmas.Option.{none-some}
 use Rattle.std.specs.List.{position, position_or_len}
 use Rattle.line_trees.specs.LineTrees.{HasNoFeedFrom}
 use Rattle.line_trees.proofs.ForCallers.{get_dropped}
-use Rattle.grep_core.specs.Candidates.{IsLineStart}
-use Rattle.grep_core.specs.Lines.{SplitLine, ended, split_lines}
+use Rattle.line_search.specs.Candidates.{IsLineStart}
+use Rattle.line_search.specs.Lines.{SplitLine, ended, split_lines}
 use Rattle.grep_core.specs.Skipping.{AreWhole}
-use Rattle.grep_core.proofs.BlockLemmas.{is_feed, first_at, one_more, some_at, turn, turn_counted}
-use Rattle.grep_core.proofs.LineCutLemmas.{before_start}
+use Rattle.line_search.proofs.ForCallers.{is_feed, before_start, feed_first}
+use Rattle.grep_core.proofs.BlockLemmas.{turn, turn_counted}
 use Rattle.grep_core.proofs.WholeLemmas.{whole_behind, whole_none}
-
--- ---- where the first line feed is
-abbrev IsAtFeed : List ℕ → Type 0
-IsAtFeed text = position_or_len is_feed text < length text → slice_get text (position_or_len is_feed text) ≡ Some 10
-
-feed_by : (x : ℕ) (xs : List ℕ) → IsAtFeed xs → (v : Bool) → is_feed x ≡ v → IsAtFeed (x ∷ xs)
-feed_by x xs rest true e few = ap (slice_get (x ∷ xs)) (first_at x xs true e) ∙ ap Some (eqb-true x 10 e)
-feed_by x xs rest false e few =
-    ap (slice_get (x ∷ xs)) (first_at x xs false e ∙ one_more (position_or_len is_feed xs))
-    ∙ rest (omega (arith, few, first_at x xs false e))
-
-feed_first : (text : List ℕ) → IsAtFeed text
-feed_first [] few = absurd (omega (arith, few))
-feed_first (x ∷ xs) few = feed_by x xs (feed_first xs) (is_feed x) refl few
-
-pub feed_there : (text : List ℕ) (n : ℕ) → position is_feed text ≡ Some n → slice_get text n ≡ Some 10
-feed_there text n e =
-    let at = some_at (nat_lt (position_or_len is_feed text) (length text)) (position_or_len is_feed text) n e in
-    sym (ap (slice_get text) at.1) ∙ feed_first text (ltb-true (position_or_len is_feed text) (length text) at.0)
 
 none_by : (text : List ℕ) → ((i : ℕ) → slice_get text i ≡ Some 10 → ⊥) → (v : Bool) →
     nat_lt (position_or_len is_feed text) (length text) ≡ v →
@@ -93,12 +74,6 @@ whole_range block at next low starts =
     get_dropped at block (next - at - 1) ∙ ap (slice_get block) place ∙ starts (omega (arith, some)))
 
 -- ---- one line
-pub starts_behind : (block text : List ℕ) (at len next : ℕ) → text ≡ drop at block → position is_feed text ≡ Some len →
-    next ≡ at + (len + 1) → IsLineStart block next
-starts_behind block text at len next rest found is some =
-    let place : next - 1 ≡ at + len = omega (arith, is) in
-    ap (slice_get block) place ∙ sym (get_dropped at block len) ∙ sym (ap (λ t. slice_get t len) rest) ∙ feed_there text len found
-
 pub here_told : {P : Type 0} (reports : P → List SplitLine → List ℕ) (p q : P) (block more text piece out new : List ℕ) (at len next : ℕ) →
     text ≡ drop at block → position is_feed text ≡ Some len → piece ≡ take len text → next ≡ at + (len + 1) →
     ((lines : List SplitLine) → out ++ reports p (ended piece ∷ lines) ≡ new ++ reports q lines) →

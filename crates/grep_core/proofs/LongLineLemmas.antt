@@ -1,53 +1,38 @@
 -- What is written of a line while its matches are searched for.
-use Rattle.std.proofs.Common.{◌≡◌, ℕ, zero, suc, ◌+◌, ◌-◌, ◌<◌, ◌==◌, Bool, true, false, not, ◌&&◌, List, [], ◌∷◌, ◌++◌, All, length, map, take, drop, Option}
-use Rattle.std.proofs.Common.{Some, None, Result, Ok, Err, IfErr, OnOk, option_map, if◌then◌else◌, refl, sym, ap, ap₂, ◌∙◌, subst, arith, append_assoc, append-nil}
+use Rattle.std.proofs.Common.{◌≡◌, ℕ, zero, suc, ◌+◌, ◌-◌, ◌<◌, Bool, true, false, not, ◌&&◌, List, [], ◌∷◌, ◌++◌, length, map, take, drop, Option}
+use Rattle.std.proofs.Common.{Some, None, Result, Ok, Err, IfErr, OnOk, if◌then◌else◌, refl, sym, ap, ap₂, ◌∙◌, subst, arith, append_assoc, append-nil}
 use Rattle.std.proofs.Math.Seq.{take-append_seam, take-append-add}
 use Rattle.std.proofs.KnownBytes.{Appends-nil, Appends-trans}
 use Rattle.std.proofs.lemmas.List.Concat.{flat_map-cons}
-use Rattle.std.proofs.lemmas.List.Elements.{All-nil, All-cons}
 use Rattle.std.specs.Io.KnownBytes.{Appends}
 use Rattle.std.specs.List.{flat_map, position}
 use Rattle.regex_hir.specs.Re.{Re}
 use Rattle.regex_hir.specs.Find.{find, find_all}
-use Rattle.regex_hir.specs.Meaning.{alt_all}
-use Rattle.regex_hir.specs.Text.{is_some_and}
-use Rattle.hir_core.specs.Facts.{LoopsRead}
-use Rattle.hir_core.specs.Tree.{Tree}
-use Rattle.search_types.specs.Found.{Found}
-use Rattle.regex_pair.specs.Pairs.{Pair, PairCache}
-use Rattle.regex_pair.specs.PairAnswers.{AnswersPair}
-use Rattle.hirscan.specs.Built.{IsBuilt}
-use Rattle.hirscan.specs.Regexes.{IsSearchOf}
-use Rattle.pattern_text.specs.SameEnds.{AreSameEnds, AreSameSpans}
-use Rattle.pattern_search.specs.RegexAnswers.{AnswersAsRead}
-use Rattle.pattern_search.specs.Searches.{span_of_found, span_of_match, whole_search}
+use Rattle.pattern_search.specs.Searches.{span_of_match}
 use Rattle.pattern_search.specs.Texts.{AreReadAs}
 use Rattle.grep_core.specs.Blocks.{SearchesBy, Writes, WritesPart, counts_lines, finds_by, reported_bytes}
-use Rattle.grep_core.specs.Bounded.{line_pattern}
 use Rattle.grep_core.specs.ContextPrinting.{Item, item, print_as, print_item, still}
-use Rattle.grep_core.specs.Fallbacks.{found_at, next_after, spans_following}
-use Rattle.grep_core.specs.Lines.{SplitLine, TextLine, ended, numbered, searched, split_lines, unended}
-use Rattle.grep_core.specs.LongLines.{IsFoundSpan, Sends, WritesLines}
-use Rattle.grep_core.specs.Meant.{line_config}
-use Rattle.grep_core.specs.Patterns.{has_match_in, spans_in}
+use Rattle.line_search.specs.Fallbacks.{found_at, next_after, spans_following}
+use Rattle.line_search.specs.Lines.{SplitLine, TextLine, ended, numbered, searched, split_lines, unended}
+use Rattle.grep_core.specs.LongLines.{Sends, WritesLines}
+use Rattle.line_search.specs.Meant.{line_config}
+use Rattle.line_search.specs.Patterns.{has_match_in, spans_in}
 use Rattle.grep_core.specs.Printing.{printed_match, printed_matches, shows_matches}
-use Rattle.grep_core.specs.Report.{LineMatcher, shown_by, shown_line, shown_spans}
+use Rattle.line_search.specs.LineMatchers.{LineMatcher}
+use Rattle.grep_core.specs.Report.{shown_by, shown_line, shown_spans}
 use Rattle.grep_core.specs.Reporting.{added, added_matches, count_in_all, may_select, needs_of, needs_spans, number_of, prints_lines, shown, still_reported}
-use Rattle.grep_core.specs.Searchers.{IsMatchReported, IsSearcherOf, Sought, found_by, sized_settings}
+use Rattle.line_search.specs.Searchers.{IsMatchReported, Sought, found_by}
 use Rattle.grep_core.specs.declared.output_options.OutputOptions.{OutputOptions}
 use Rattle.grep_core.specs.declared.output_options.Print.TheVariants.{Matches}
-use Rattle.grep_core.specs.declared.patterns.PatternOptions.{PatternOptions}
+use Rattle.line_search.specs.declared.patterns.PatternOptions.{PatternOptions}
 use Rattle.grep_core.specs.declared.progress.Progress.{Progress}
 use Rattle.grep_core.specs.declared.progress.Task.{Task}
 use Rattle.grep_core.specs.declared.reporter.Reporter.{Reporter}
 use Rattle.grep_core.specs.declared.role.Role.TheVariants.{Selected}
-use Rattle.grep_core.proofs.BlockLemmas.{first_line, is_feed, last_line}
-use Rattle.grep_core.proofs.BoundedTreeLemmas.{ends_of, spans_of}
+use Rattle.grep_core.proofs.BlockLemmas.{first_line, last_line}
+use Rattle.line_search.proofs.ForCallers.{is_feed, spans_of_matches}
 use Rattle.grep_core.proofs.SeenLemmas.{progress_by}
-use Rattle.grep_core.proofs.SpanLemmas.{spans_of_matches}
 use Rattle.grep_core.proofs.TellingLemmas.{line_counted, line_told, lines_told, number_told, selects}
-use Rattle.grep_core.proofs.ToldLemmas.{is_search}
-use Rattle.grep_core.proofs.WholePatternLemmas.{find_same, whole_is_each, whole_pattern}
 use Rattle.grep_core.proofs.WriteLemmas.{taken_before, then_part, then_writes}
 
 -- ---- what follows from a clause that holds after a call
@@ -197,38 +182,6 @@ module _ (g : ℕ × ℕ → List ℕ) (re : Re) (line : List ℕ) where
   stands_counted start u w out n next none a =
       stands_end (start ++ flat_map g (map span_of_match (find_all re line))) u w out (still_to_come n next)
       (ap (λ k. still_to_come k next) none) a
-
--- ---- what was found by automata, from an offset on
-is_search_from : (xs : List Tree) (line : List ℕ) (at : ℕ) → All (λ b. b < 256) line → IsSearchOf xs false (whole_search line at)
-is_search_from xs line at bytes =
-    let it = is_search xs line bytes in
-    record { within = it.within; whole = it.whole; bytes = it.bytes; valid = it.valid; utf8_trees = it.utf8_trees }
-
-pub found_told : (how : PatternOptions) (texts : List (List ℕ)) (p : Pair) (c : PairCache) (line : List ℕ) (at : ℕ) (o : Option Found)
-    (reported : Option (ℕ × ℕ)) →
-    ((res : List Re) (xs : List Tree) (k : Option ℕ) → AreSameEnds res xs → AreSameSpans res xs → IsBuilt xs (sized_settings k) p →
-    AnswersAsRead res xs (sized_settings k) p) →
-    (it : IsSearcherOf how texts p) → LoopsRead it.tree → All (λ b. b < 256) line → AnswersPair p c (whole_search line at) (Ok o) →
-    reported ≡ option_map span_of_found o → IsFoundSpan how texts line at reported
-found_told how texts p c line at o reported law it loops bytes answer is res read =
-    let answers = law (whole_pattern how res ∷ []) (it.tree ∷ []) it.capacity (ends_of how texts it.tree it.mean res read)
-    (spans_of how texts it.tree it.mean res read) it.built in
-    let all = All-cons LoopsRead it.tree [] loops (All-nil LoopsRead) in
-    is
-    ∙ sym (answers.found all line at (is_search_from (it.tree ∷ []) line at bytes) c o answer)
-    ∙ ap (option_map span_of_match) (find_same (alt_all (whole_pattern how res ∷ [])) (line_pattern how res) (whole_is_each how res) line bytes
-    at)
-
--- ---- the next span after one that ended at an offset
-pub next_kept : (at : ℕ → Option (ℕ × ℕ)) (end : ℕ) (o : Option (ℕ × ℕ)) → o ≡ at end → is_some_and o (λ s. s.1 == end) ≡ false →
-    o ≡ next_after at end
-next_kept at end o is other =
-    is ∙ sym (ap (λ b. if b then at (end + 1) else at end) (ap (λ x. is_some_and x (λ s. s.1 == end)) (sym is) ∙ other))
-
-pub next_later : (at : ℕ → Option (ℕ × ℕ)) (end : ℕ) (o p : Option (ℕ × ℕ)) → o ≡ at end → is_some_and o (λ s. s.1 == end) ≡ true →
-    p ≡ at (end + 1) → p ≡ next_after at end
-next_later at end o p is same later =
-    later ∙ sym (ap (λ b. if b then at (end + 1) else at end) (ap (λ x. is_some_and x (λ s. s.1 == end)) (sym is) ∙ same))
 
 -- ---- a line that is selected, whose matches alone are printed
 selects_one : (w : OutputOptions) (n : ℕ) → w.invert ≡ false → may_select w.most n ≡ true → true ≡ selects w n true

@@ -4,7 +4,8 @@ use Rattle.search_types.specs.declared.span.Span.{Span}
 use Rattle.grep_core.specs.declared.colors.Colors.{Colors}
 use Rattle.grep_core.specs.declared.colors.Part.{Part}
 use Rattle.grep_core.specs.Colors.{marked_from}
-use Rattle.grep_core.specs.Printing.{moved, span_pair}
+use Rattle.grep_core.specs.Printing.{moved}
+use Rattle.line_search.specs.LineMatchers.{span_pair}
 
 -- the matches from this one on
 abbrev those : ℕ → List Span → List (ℕ × ℕ)

@@ -10,9 +10,10 @@ use Rattle.grep_core.specs.declared.role.Role.TheVariants.{Selected, Beside, Hid
 use Rattle.grep_core.specs.declared.output_options.Print.{Print}
 use Rattle.grep_core.specs.declared.output_options.Print.TheVariants.{Lines, Matches, Count, CountMatches, NameIfAny, NameIfNone, Nothing}
 use Rattle.grep_core.specs.declared.output_options.OutputOptions.{OutputOptions}
-use Rattle.grep_core.specs.Lines.{SplitLine, TextLine, text_lines}
+use Rattle.line_search.specs.Lines.{SplitLine, TextLine, text_lines}
 use Rattle.grep_core.specs.Printing.{has_marks, printed_line, printed_matches, printed_with, shown_matches, shows_matches}
-use Rattle.grep_core.specs.Report.{LineMatcher, after_hidden, count_line, count_matches, parting, print_lines, report, report_as, roles_of, selected, ShownLine, as_it_is, shown_by, shown_of, shown_line, shown_spans}
+use Rattle.line_search.specs.LineMatchers.{LineMatcher, ShownLine}
+use Rattle.grep_core.specs.Report.{after_hidden, count_line, count_matches, parting, print_lines, report, report_as, roles_of, selected, as_it_is, shown_by, shown_of, shown_line, shown_spans}
 use Rattle.grep_core.specs.Reporting.{with_needed_spans, needs_of, needs_shown}
 
 print_alike : {X : Type 0} (w : OutputOptions) (one two : Role → X → List ℕ) → ((r : Role) (x : X) → one r x ≡ two r x) →

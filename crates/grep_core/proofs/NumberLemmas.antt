@@ -17,16 +17,17 @@ use Rattle.grep_core.specs.declared.output_options.Print.{Print}
 use Rattle.grep_core.specs.declared.output_options.Print.TheVariants.{Lines, Matches, Count, CountMatches, NameIfAny, NameIfNone, Nothing}
 use Rattle.grep_core.specs.declared.output_options.OutputOptions.{OutputOptions}
 use Rattle.grep_core.specs.Blocks.{reported_bytes, counts_lines}
-use Rattle.grep_core.specs.Candidates.{IsLineStart}
+use Rattle.line_search.specs.Candidates.{IsLineStart}
 use Rattle.grep_core.specs.ContextPrinting.{Item, item, print_as, print_item, still, waiting_item}
-use Rattle.grep_core.specs.Lines.{SplitLine, TextLine, numbered, split_lines}
+use Rattle.line_search.specs.Lines.{SplitLine, TextLine, numbered, split_lines}
 use Rattle.grep_core.specs.Printing.{column_field, column_of, fields, first_column, has_marks, if_asked, is_printed, line_text, match_text, name_field, number_field}
 use Rattle.grep_core.specs.Printing.{printed_for, printed_line, printed_match, printed_matches, printed_once, printed_with, shown_matches}
 use Rattle.grep_core.specs.Skipping.{AreWhole, MaySkip, SkipsTo, held_of, shows_numbers}
-use Rattle.grep_core.specs.Report.{LineMatcher, after_hidden, after_of, before_of, count_line, is_wanted, parting, print_lines, shown_of}
+use Rattle.line_search.specs.LineMatchers.{LineMatcher}
+use Rattle.grep_core.specs.Report.{after_hidden, after_of, before_of, count_line, is_wanted, parting, print_lines, shown_of}
 use Rattle.grep_core.specs.Selecting.{count_selected, limited, roles_from}
 use Rattle.grep_core.specs.Reporting.{flags_after, left_of, matches_in, number_of, prints_lines, reported_lines, reported_item, shown}
-use Rattle.grep_core.proofs.BlockLemmas.{is_feed}
+use Rattle.line_search.proofs.ForCallers.{is_feed}
 use Rattle.grep_core.proofs.PassLemmas.{passed_over}
 
 -- ---- what is printed for a line, with its number and offset left out

@@ -16,14 +16,16 @@ use Rattle.grep_core.specs.declared.output_options.Print.{Print}
 use Rattle.grep_core.specs.declared.output_options.Print.TheVariants.{Lines, Matches, Count, CountMatches, NameIfAny, NameIfNone, Nothing}
 use Rattle.grep_core.specs.declared.output_options.OutputOptions.{OutputOptions}
 use Rattle.grep_core.specs.Blocks.{reported_bytes, counts_lines}
-use Rattle.grep_core.specs.Candidates.{IsLineStart}
+use Rattle.line_search.specs.Candidates.{IsLineStart}
 use Rattle.grep_core.specs.ContextPrinting.{Item, print_item, still, waiting_item}
-use Rattle.grep_core.specs.Lines.{SplitLine, ended, numbered, split_lines}
+use Rattle.line_search.specs.Lines.{SplitLine, ended, numbered, split_lines}
 use Rattle.grep_core.specs.Skipping.{AreWhole, HasNoMatch, MaySkip, SkipsTo, held_of}
-use Rattle.grep_core.specs.Report.{LineMatcher, before_of, after_of, after_hidden, count_line, name_line}
+use Rattle.line_search.specs.LineMatchers.{LineMatcher}
+use Rattle.grep_core.specs.Report.{before_of, after_of, after_hidden, count_line, name_line}
 use Rattle.grep_core.specs.Selecting.{count_selected}
 use Rattle.grep_core.specs.Reporting.{shown, matches_in, number_of, reported_item, prints_lines, reported_lines, may_select, flags_after}
-use Rattle.grep_core.proofs.BlockLemmas.{is_feed, turn, turn_counted}
+use Rattle.line_search.proofs.ForCallers.{is_feed}
+use Rattle.grep_core.proofs.BlockLemmas.{turn, turn_counted}
 use Rattle.grep_core.proofs.JoinLemmas.{whole_start, whole_range}
 use Rattle.grep_core.proofs.RunLemmas.{one_lacks, others_lack}
 use Rattle.grep_core.proofs.StepLemmas.{rest, passes, known_after, known_some}

@@ -9,8 +9,9 @@ use Rattle.grep_core.specs.declared.output_options.Context.{Context}
 use Rattle.grep_core.specs.declared.output_options.Print.TheVariants.{Lines, Matches, Count, NameIfAny, NameIfNone}
 use Rattle.grep_core.specs.declared.output_options.GroupSeparator.TheVariants.{Hyphens, Given, Omitted}
 use Rattle.grep_core.specs.declared.output_options.OutputOptions.{OutputOptions}
-use Rattle.grep_core.specs.Lines.{ended, searched, unended}
-use Rattle.grep_core.specs.Report.{LineMatcher, as_it_is, report}
+use Rattle.line_search.specs.Lines.{ended, searched, unended}
+use Rattle.line_search.specs.LineMatchers.{LineMatcher}
+use Rattle.grep_core.specs.Report.{as_it_is, report}
 
 -- each `a` is a match
 abbrev spans_from : ℕ → List ℕ → List (ℕ × ℕ)

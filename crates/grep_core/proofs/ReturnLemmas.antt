@@ -1,7 +1,7 @@
 -- What is left of bytes without the carriage return at their end.
 use Rattle.std.proofs.Common.{◌≡◌, ℕ, ◌==◌, ◌&&◌, append-nil, drop, Bool, true, false, List, [], ◌∷◌, ◌++◌, length, if◌then◌else◌, refl, ap, sym, ◌∙◌, arith}
 use Rattle.std.proofs.lemmas.List.{drop_all}
-use Rattle.grep_core.specs.Lines.{SplitLine, searched, without_return}
+use Rattle.line_search.specs.Lines.{SplitLine, searched, without_return}
 
 pub none_left_out : (bytes : List ℕ) → length bytes ≡ 0 → bytes ≡ without_return bytes
 none_left_out [] none = refl

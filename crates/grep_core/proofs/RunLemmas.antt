@@ -5,12 +5,13 @@ use Rattle.std.proofs.lemmas.List.Elements.{All-head, All-tail, All-weaker}
 use Rattle.std.specs.List.{position}
 use Rattle.grep_core.specs.declared.progress.Task.{Task}
 use Rattle.grep_core.specs.Blocks.{SearchesBy, finds_by}
-use Rattle.grep_core.specs.Lines.{SplitLine, ended, split_lines}
-use Rattle.grep_core.specs.Replacing.{all_names}
+use Rattle.line_search.specs.Lines.{SplitLine, ended, split_lines}
+use Rattle.line_search.specs.Replacing.{all_names}
 use Rattle.grep_core.specs.Skipping.{HasNoMatch}
-use Rattle.grep_core.specs.Report.{LineMatcher}
-use Rattle.grep_core.specs.Searchers.{Sought, found_by}
-use Rattle.grep_core.proofs.BlockLemmas.{is_feed, first_line}
+use Rattle.line_search.specs.LineMatchers.{LineMatcher}
+use Rattle.line_search.specs.Searchers.{Sought, found_by}
+use Rattle.line_search.proofs.ForCallers.{is_feed}
+use Rattle.grep_core.proofs.BlockLemmas.{first_line}
 use Rattle.grep_core.proofs.SeenLemmas.{none_found, none_changed}
 
 -- lines in which nothing is found have no text of a match

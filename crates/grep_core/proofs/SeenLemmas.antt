@@ -1,5 +1,5 @@
 -- What is seen of a line.
-use Rattle.std.proofs.Common.{◌≡◌, ℕ, zero, suc, ◌+◌, Bool, true, false, not, ◌&&◌, List, [], ◌∷◌, ◌++◌, map, length, drop, All, Option, Some, None, if◌then◌else◌}
+use Rattle.std.proofs.Common.{◌≡◌, ℕ, zero, suc, ◌+◌, Bool, true, false, not, ◌&&◌, List, [], ◌++◌, map, length, drop, All, Option, Some, None, if◌then◌else◌}
 use Rattle.std.proofs.Common.{refl, sym, ap, ap₂, ◌∙◌, subst, arith}
 use Rattle.std.specs.Borrow.{Bor}
 use Rattle.std.specs.Prelude.{is_some}
@@ -7,19 +7,18 @@ use Rattle.regex_hir.specs.Re.{Re}
 use Rattle.regex_hir.specs.Find.{Match, find, find_all, matches_from}
 use Rattle.regex_syntax.specs.Grammar.{Names}
 use Rattle.regex.specs.Replace.{replaced_by}
-use Rattle.hir_core.specs.Facts.{LoopsRead}
-use Rattle.regex_pair.specs.Pairs.{Pair}
 use Rattle.pattern_search.specs.Searches.{span_of_match}
-use Rattle.grep_core.specs.Bounded.{line_pattern}
-use Rattle.grep_core.specs.Meant.{line_config}
-use Rattle.grep_core.specs.declared.patterns.PatternOptions.{PatternOptions}
+use Rattle.line_search.specs.Bounded.{line_pattern}
+use Rattle.line_search.specs.Meant.{line_config}
+use Rattle.line_search.specs.declared.patterns.PatternOptions.{PatternOptions}
 use Rattle.grep_core.specs.declared.output_options.OutputOptions.{OutputOptions}
-use Rattle.grep_core.specs.Lines.{SplitLine, TextLine, searched, split_lines}
-use Rattle.grep_core.specs.Patterns.{finds_of, has_match_in, spans_in}
-use Rattle.grep_core.specs.Replacing.{all_names, replaced_line, replaced_spans, replaced_text, written_for, written_spans}
-use Rattle.grep_core.specs.Report.{LineMatcher, ShownLine, as_it_is, shown_by, shown_line, shown_of, shown_spans}
-use Rattle.grep_core.specs.Candidates.{HaveNoMatch}
-use Rattle.grep_core.specs.Searchers.{AreReplaced, AreReported, IsMatchReported, IsResized, Sought, IsSearcherOf, SearchesFor, found_by}
+use Rattle.line_search.specs.Lines.{SplitLine, TextLine, searched, split_lines}
+use Rattle.line_search.specs.Patterns.{finds_of, has_match_in, spans_in}
+use Rattle.line_search.specs.Replacing.{all_names, replaced_line, replaced_spans, replaced_text, written_for, written_spans}
+use Rattle.line_search.specs.LineMatchers.{LineMatcher, ShownLine}
+use Rattle.grep_core.specs.Report.{as_it_is, shown_by, shown_line, shown_of, shown_spans}
+use Rattle.line_search.specs.Candidates.{HaveNoMatch}
+use Rattle.line_search.specs.Searchers.{AreReplaced, AreReported, IsMatchReported, Sought, SearchesFor, found_by}
 use Rattle.pattern_search.specs.Texts.{AreReadAs}
 use Rattle.grep_core.specs.Reporting.{needs_shown, needs_spans, with_needed_spans}
 use Rattle.grep_core.proofs.NeededLemmas.{same_shown}
@@ -90,23 +89,6 @@ pub none_needed : (w : OutputOptions) (f : LineMatcher) (line : SplitLine) → n
 none_needed w f line none =
     shown_without w (with_needed_spans w f) line (ap (λ b. (if b then f.spans line else [])) none)
     (λ template. ap (λ b. (if b then f.replaced template line else as_it_is line [])) none)
-
--- what a finder knows of its searcher
-abbrev pub IsOwn : PatternOptions → List (List ℕ) → Bool → Pair → Type 0
-IsOwn how texts spans p = (it : IsSearcherOf how texts p) × (spans ≡ true → LoopsRead it.tree)
-
--- and of one with larger caches
-pub own_resized : (how : PatternOptions) (texts : List (List ℕ)) (spans : Bool) (p q : Pair) (bytes : ℕ) → IsResized bytes p q →
-    IsOwn how texts spans p → IsOwn how texts spans q
-own_resized how texts spans p q bytes resized own = (
-  record {
-    tree = own.0.tree;
-    mean = own.0.mean;
-    capacity = Some bytes;
-    built = resized (own.0.tree ∷ []) own.0.capacity own.0.built;
-  },
-  own.1,
-)
 
 -- and if it counts, these are all matches of a line that isn't replaced
 pub all_needed : (w : OutputOptions) (f : LineMatcher) (line : SplitLine) (found : List (ℕ × ℕ)) → needs_shown w ≡ true →

@@ -12,8 +12,9 @@ use Rattle.grep_core.specs.declared.output_options.Print.{Print}
 use Rattle.grep_core.specs.declared.output_options.Print.TheVariants.{Lines, Matches, Count, CountMatches, NameIfAny, NameIfNone, Nothing}
 use Rattle.grep_core.specs.declared.output_options.OutputOptions.{OutputOptions}
 use Rattle.grep_core.specs.ContextPrinting.{Item, item, still, print_as, print_item, waiting_item}
-use Rattle.grep_core.specs.Lines.{TextLine}
-use Rattle.grep_core.specs.Report.{LineMatcher, before_of, after_of, first_of, roles_of, parting, after_hidden, print_lines, count_line, name_line}
+use Rattle.line_search.specs.Lines.{TextLine}
+use Rattle.line_search.specs.LineMatchers.{LineMatcher}
+use Rattle.grep_core.specs.Report.{before_of, after_of, first_of, roles_of, parting, after_hidden, print_lines, count_line, name_line}
 use Rattle.grep_core.specs.Report.{count_matches, report_as, selected, is_wanted, shown_line, shown_spans}
 use Rattle.grep_core.specs.Selecting.{limited, count_selected, any, roles, roles_from}
 use Rattle.grep_core.specs.Reporting.{added, added_matches, counts_matches, matches_in, number_of, shown, reported_item, prints_lines, reported_lines, left_of, may_select, flags_after}

@@ -5,8 +5,9 @@ use Rattle.grep_core.specs.declared.progress.Progress.{Progress}
 use Rattle.grep_core.specs.declared.progress.Task.{Task}
 use Rattle.grep_core.specs.declared.separator_state.SeparatorState.{SeparatorState}
 use Rattle.grep_core.specs.Blocks.{reported_bytes, counts_lines, ReadsAndWrites, WritesPart}
-use Rattle.grep_core.specs.Lines.{text_lines, split_lines}
-use Rattle.grep_core.specs.Report.{LineMatcher, counted_as, report, report_as, selected, selected_count}
+use Rattle.line_search.specs.Lines.{text_lines, split_lines}
+use Rattle.line_search.specs.LineMatchers.{LineMatcher}
+use Rattle.grep_core.specs.Report.{counted_as, report, report_as, selected, selected_count}
 use Rattle.grep_core.specs.Selecting.{count_selected}
 use Rattle.grep_core.specs.Reporting.{with_needed_spans}
 use Rattle.grep_core.proofs.NeededLemmas.{needed_report}

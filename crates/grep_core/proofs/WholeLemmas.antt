@@ -4,9 +4,10 @@ use Rattle.std.proofs.Common.{count_by, if◌then◌else◌, refl, sym, ap, ◌�
 use Rattle.std.proofs.lemmas.List.{drop_all}
 use Rattle.std.proofs.lemmas.List.Sums.{sum_by-append, sum_by-cons}
 use Rattle.std.specs.List.{position}
-use Rattle.grep_core.specs.Lines.{SplitLine, ended, put_first, split_lines}
+use Rattle.line_search.specs.Lines.{SplitLine, ended, put_first, split_lines}
 use Rattle.grep_core.specs.Skipping.{AreWhole}
-use Rattle.grep_core.proofs.BlockLemmas.{is_feed, last_line}
+use Rattle.line_search.proofs.ForCallers.{is_feed}
+use Rattle.grep_core.proofs.BlockLemmas.{last_line}
 
 lines_by : (x : ℕ) (xs : List ℕ) (v : Bool) → is_feed x ≡ v →
     split_lines (x ∷ xs) ≡ (if v then ended [] ∷ split_lines xs else put_first x (split_lines xs))

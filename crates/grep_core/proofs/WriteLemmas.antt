@@ -10,8 +10,9 @@ use Rattle.std.specs.Prelude.{IfSome}
 use Rattle.grep_core.specs.declared.progress.Progress.{Progress}
 use Rattle.grep_core.specs.declared.progress.Task.{Task}
 use Rattle.grep_core.specs.Blocks.{reported_bytes, counts_lines, IsOver, Writes, ReadsAndWrites, WritesPart}
-use Rattle.grep_core.specs.Lines.{split_lines}
-use Rattle.grep_core.specs.Report.{LineMatcher, counted_as}
+use Rattle.line_search.specs.Lines.{split_lines}
+use Rattle.line_search.specs.LineMatchers.{LineMatcher}
+use Rattle.grep_core.specs.Report.{counted_as}
 
 -- what was appended before bytes that stay
 pub appends_kept : (a b c : Option (List ℕ)) (bytes : List ℕ) → Appends a b bytes → Keeps b c → Appends a c bytes

@@ -4,9 +4,10 @@ use Rattle.std.specs.declared.alloc.Global.{Global}
 use Rattle.std.specs.Io.KnownBytes.{Appends}
 use Rattle.grep_core.specs.declared.progress.Progress.{Progress}
 use Rattle.grep_core.specs.declared.progress.Task.{Task}
-use Rattle.grep_core.specs.Lines.{SplitLine, TextLine, numbered, split_lines}
-use Rattle.grep_core.specs.Report.{LineMatcher, ShownLine, as_it_is, counted_as}
-use Rattle.grep_core.specs.Searchers.{Sought, SearchesFor, found_by}
+use Rattle.line_search.specs.Lines.{SplitLine, TextLine, numbered, split_lines}
+use Rattle.line_search.specs.LineMatchers.{LineMatcher, ShownLine}
+use Rattle.grep_core.specs.Report.{as_it_is, counted_as}
+use Rattle.line_search.specs.Searchers.{Sought, SearchesFor, found_by}
 use Rattle.grep_core.specs.Reporting.{needs_spans, with_needed_spans, still_reported, count_in_all}
 
 -- The lines of an input, from the next line on.

@@ -5,7 +5,7 @@ use Rattle.grep_core.specs.declared.colors.Part.{Part}
 use Rattle.grep_core.specs.declared.colors.Part.TheVariants.{Name, Number, Offset, Separator, SelectedLine, ContextLine, SelectedMatch, ContextMatch}
 use Rattle.grep_core.specs.declared.role.Role.{Role}
 use Rattle.grep_core.specs.declared.role.Role.TheVariants.{Selected}
-use Rattle.grep_core.specs.Lines.{without_return}
+use Rattle.line_search.specs.Lines.{without_return}
 
 -- The text that sets the colour of a part.
 abbrev pub code_of : Colors → Part → List ℕ

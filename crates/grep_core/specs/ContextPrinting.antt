@@ -9,9 +9,10 @@ use Rattle.grep_core.specs.declared.role.Role.TheVariants.{Beside}
 use Rattle.grep_core.specs.declared.output_options.Print.{Print}
 use Rattle.grep_core.specs.declared.output_options.Print.TheVariants.{Matches}
 use Rattle.grep_core.specs.declared.output_options.OutputOptions.{OutputOptions}
-use Rattle.grep_core.specs.Lines.{TextLine}
+use Rattle.line_search.specs.Lines.{TextLine}
 use Rattle.grep_core.specs.Selecting.{roles_from}
-use Rattle.grep_core.specs.Printing.{printed_line, printed_matches, span_pair}
+use Rattle.grep_core.specs.Printing.{printed_line, printed_matches}
+use Rattle.line_search.specs.LineMatchers.{span_pair}
 use Rattle.grep_core.specs.Report.{before_of, after_of, parting, print_lines}
 
 -- A line and its matches.

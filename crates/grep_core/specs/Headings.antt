@@ -3,7 +3,8 @@ use Rattle.std.specs.Prelude.{◌≡◌, ℕ, ◌+◌, Bool, false, List, [], �
 use Rattle.std.specs.Io.KnownBytes.{append_known}
 use Rattle.grep_core.specs.declared.separator_state.SeparatorState.TheVariants.{NonePrinted}
 use Rattle.grep_core.specs.declared.output_options.OutputOptions.{OutputOptions}
-use Rattle.grep_core.specs.Report.{LineMatcher, name_line, report}
+use Rattle.line_search.specs.LineMatchers.{LineMatcher}
+use Rattle.grep_core.specs.Report.{name_line, report}
 
 -- The heading of an input. If something is printed for earlier inputs, an empty line separates it from that.
 abbrev pub heading : OutputOptions → List ℕ → Bool → Bool → List ℕ

@@ -9,11 +9,10 @@ use Rattle.grep_core.specs.declared.colors.Part.TheVariants.{Name, Number, Offse
 use Rattle.grep_core.specs.declared.line.Line.{Line}
 use Rattle.grep_core.specs.declared.role.Role.{Role}
 use Rattle.grep_core.specs.declared.role.Role.TheVariants.{Selected}
-use Rattle.search_types.specs.declared.span.Span.{Span}
 use Rattle.grep_core.specs.declared.output_options.GroupSeparator.{GroupSeparator}
 use Rattle.grep_core.specs.declared.output_options.GroupSeparator.TheVariants.{Hyphens, Given, Omitted}
 use Rattle.grep_core.specs.declared.output_options.OutputOptions.{OutputOptions}
-use Rattle.grep_core.specs.Lines.{TextLine}
+use Rattle.line_search.specs.Lines.{TextLine}
 
 -- The separator after each field before a line: a colon for selected lines, a hyphen for others, unless it is given.
 abbrev pub separator : OutputOptions → Role → List ℕ
@@ -67,9 +66,6 @@ tab w name text =
 -- A borrowed line.
 abbrev pub text_line : Line → TextLine
 text_line line = record { number = line.number; place = line.place; content = record { bytes = line.bytes.now; is_ended = line.is_ended } }
-
-abbrev pub span_pair : Span → ℕ × ℕ
-span_pair s = (s.start, s.end)
 
 -- Whether a span isn't empty.
 abbrev pub is_some_text : ℕ × ℕ → Bool

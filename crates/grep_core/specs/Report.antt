@@ -7,29 +7,18 @@ use Rattle.grep_core.specs.declared.output_options.Print.{Print}
 use Rattle.grep_core.specs.declared.separator_state.SeparatorState.{SeparatorState}
 use Rattle.grep_core.specs.declared.separator_state.SeparatorState.TheVariants.{NonePrinted, LastPrinted, EarlierPrinted}
 use Rattle.grep_core.specs.declared.output_options.OutputOptions.{OutputOptions}
-use Rattle.grep_core.specs.Lines.{SplitLine, TextLine, text_lines}
+use Rattle.line_search.specs.Lines.{SplitLine, TextLine, text_lines}
 use Rattle.grep_core.specs.declared.role.Role.{Role}
 use Rattle.grep_core.specs.declared.role.Role.TheVariants.{Selected, Beside, Hidden}
 use Rattle.grep_core.specs.Selecting.{limited, count_selected, roles}
 use Rattle.grep_core.specs.Colors.{coloured}
 use Rattle.grep_core.specs.declared.colors.Part.TheVariants.{Separator}
 use Rattle.grep_core.specs.Printing.{printed_line, printed_matches, group_line, name_before}
-
--- What is shown of a line: bytes, and the spans in them of its matches, or of what replaces these, from left to right.
-pub record ShownLine : Type 0 where
-  pub content : SplitLine
-  pub spans : List (ℕ × ℕ)
+use Rattle.line_search.specs.LineMatchers.{ShownLine, LineMatcher}
 
 -- A line that is shown as it is, with these matches.
 abbrev pub as_it_is : SplitLine → List (ℕ × ℕ) → ShownLine
 as_it_is line found = record { content = line; spans = found }
-
--- What a matcher reports about a line: whether it has a match, the spans of all its matches, from left to right, and what is shown of the
--- line if the template of these bytes replaces them.
-pub record LineMatcher : Type 0 where
-  pub has_match : SplitLine → Bool
-  pub spans : SplitLine → List (ℕ × ℕ)
-  pub replaced : List ℕ → SplitLine → ShownLine
 
 -- What is shown of a line: the line itself, or if there is a template, the line with its matches replaced.
 abbrev pub shown_by : Option (Bor (List ℕ)) → LineMatcher → SplitLine → ShownLine

@@ -6,9 +6,10 @@ use Rattle.grep_core.specs.declared.output_options.Print.{Print}
 use Rattle.grep_core.specs.declared.output_options.Print.TheVariants.{Lines, Matches, Count, CountMatches, NameIfAny, NameIfNone, Nothing}
 use Rattle.grep_core.specs.declared.output_options.OutputOptions.{OutputOptions}
 use Rattle.grep_core.specs.ContextPrinting.{Item, item, still}
-use Rattle.grep_core.specs.Lines.{TextLine}
+use Rattle.line_search.specs.Lines.{TextLine}
 use Rattle.grep_core.specs.Printing.{shows_matches}
-use Rattle.grep_core.specs.Report.{LineMatcher, as_it_is, is_wanted, count_line, name_line, shown_line, shown_spans}
+use Rattle.line_search.specs.LineMatchers.{LineMatcher}
+use Rattle.grep_core.specs.Report.{as_it_is, is_wanted, count_line, name_line, shown_line, shown_spans}
 use Rattle.grep_core.specs.Selecting.{limited, count_selected}
 
 -- The name that is printed before lines, if any.

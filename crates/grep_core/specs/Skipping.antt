@@ -5,8 +5,9 @@ use Rattle.grep_core.specs.declared.progress.Task.{Task}
 use Rattle.grep_core.specs.declared.context_printer.ContextPrinter.{ContextPrinter}
 use Rattle.grep_core.specs.declared.output_options.OutputOptions.{OutputOptions}
 use Rattle.grep_core.specs.Blocks.{reported_bytes, counts_lines}
-use Rattle.grep_core.specs.Lines.{SplitLine, split_lines}
-use Rattle.grep_core.specs.Report.{LineMatcher, as_it_is, before_of}
+use Rattle.line_search.specs.Lines.{SplitLine, split_lines}
+use Rattle.line_search.specs.LineMatchers.{LineMatcher}
+use Rattle.grep_core.specs.Report.{as_it_is, before_of}
 use Rattle.grep_core.specs.Reporting.{prints_lines}
 
 -- Bytes that are whole lines: they are empty or end with a line feed.

@@ -2,21 +2,18 @@
 ghost use Rattle.std.specs.Prelude.{◌≡◌, ◌++◌, ◌∷◌, [], ℕ, ◌+◌, ◌≤◌, ◌==◌, List, None, OnOk, IfOk, drop, length, ◌<◌, ◌≢◌, take, true};
 ghost use Rattle.std.specs.List.{position};
 ghost use Rattle.grep_core.specs.Blocks.{SearchesBy, finds_by, reported_bytes, counts_lines};
-ghost use Rattle.grep_core.specs.Candidates.{HasMatchAt, IsLineStart};
+ghost use Rattle.line_search.specs.Candidates.{HasMatchAt, IsLineStart};
 ghost use Rattle.grep_core.specs.ContextPrinting.{Waits};
-ghost use Rattle.grep_core.specs.Lines.{SplitLine, searched, split_lines};
+ghost use Rattle.line_search.specs.Lines.{SplitLine, searched, split_lines};
 ghost use Rattle.grep_core.specs.Skipping.{AreWhole};
-ghost use Rattle.grep_core.specs.Searchers.{IsMatchReported};
+ghost use Rattle.line_search.specs.Searchers.{IsMatchReported};
 
-use crate::candidates::{Reached, line_start};
-use crate::fault::Fault;
-use crate::feeds::feed_at;
-use crate::finder::Finder;
 use crate::line::Line;
 use crate::looking::{look_at, shown_bytes};
 use crate::passing::skip_lines;
 use crate::progress::{Progress, Task, pass};
 use crate::reporter::report_line;
+use line_search::{Fault, Finder, Reached, feed_at, line_start};
 use std::alloc::Global;
 
 /// Processes one line. The line is given without its line feed. `is_known` says whether it is known to have a match.

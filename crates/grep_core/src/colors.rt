@@ -2,7 +2,8 @@
 ghost use Rattle.std.specs.Prelude.{◌≡◌, ◌++◌, ◌∷◌, ℕ, IfOk, List, OnOk, map};
 ghost use Rattle.grep_core.specs.Colors.{code_of, coloured, end_of, erasing, in_color, line_part, marked_from, marked_text};
 ghost use Rattle.grep_core.specs.Colors.{match_part, rest_of, start_of};
-ghost use Rattle.grep_core.specs.Printing.{moved, span_pair};
+ghost use Rattle.grep_core.specs.Printing.{moved};
+ghost use Rattle.line_search.specs.LineMatchers.{span_pair};
 
 use crate::role::Role;
 use crate::texts::{piece, text_from, without_return};

@@ -1,18 +1,19 @@
 //! How far the printing of lines has come, and how it advances by one line.
 ghost use Rattle.std.specs.Prelude.{◌≡◌, ◌++◌, ◌∷◌, [], ℕ, Bool, List, OnOk, map, option_map, true, false, IfOk, Option, drop, ◌<◌};
 ghost use Rattle.grep_core.specs.ContextPrinting.{Item, Waits, still, item, queued, after_queue, print_item, waiting_item};
-ghost use Rattle.grep_core.specs.Printing.{span_pair, text_line};
+ghost use Rattle.line_search.specs.LineMatchers.{span_pair};
+ghost use Rattle.grep_core.specs.Printing.{text_line};
 ghost use Rattle.grep_core.specs.declared.output_options.OutputOptions.{OutputOptions as TheOutputOptions};
 ghost use Rattle.grep_core.specs.Report.{parting, before_of, after_of, first_of, after_hidden, print_lines};
 ghost use Rattle.grep_core.specs.Selecting.{roles};
 
-use crate::fault::Fault;
 use crate::items::push_item;
 use crate::line::Line;
 use crate::output_options::OutputOptions;
 use crate::printing::push_group;
 use crate::role::Role;
 use crate::separator_state::SeparatorState;
+use line_search::Fault;
 use search_types::Span;
 use std::alloc::{AllocError, Global};
 use std::collections::VecDeque;

@@ -3,15 +3,14 @@ ghost use Rattle.std.specs.Prelude.{◌≡◌, ◌≤◌, ◌++◌, ◌==◌, �
 ghost use Rattle.std.specs.Io.KnownBytes.{Appends, Keeps};
 ghost use Rattle.grep_core.specs.Headings.{heading, report_under, with_heading};
 ghost use Rattle.grep_core.specs.Report.{counted_as, report, selected_count};
-ghost use Rattle.grep_core.specs.Searchers.{SearchesFor, found_by};
+ghost use Rattle.line_search.specs.Searchers.{SearchesFor, found_by};
 ghost use Rattle.grep_core.specs.Reporting.{needs_spans};
 
-use crate::fault::Fault;
-use crate::finder::Finder;
 use crate::output_options::OutputOptions;
 use crate::reading::report_input;
 use crate::reporter::push_name;
 use crate::separator_state::SeparatorState;
+use line_search::{Fault, Finder};
 use std::alloc::{AllocError, Global};
 use std::io;
 use std::io::{ErrorKind, Read, Write};

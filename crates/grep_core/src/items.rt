@@ -2,10 +2,10 @@
 ghost use Rattle.std.specs.Prelude.{◌≡◌, ◌++◌, ◌+◌, OnOk, map, option_map, slice_range};
 ghost use Rattle.std.specs.List.{flat_map};
 ghost use Rattle.grep_core.specs.ContextPrinting.{item, print_item};
-ghost use Rattle.grep_core.specs.Printing.{column_of, fields, is_printed, long_match, match_bytes, match_text, printed_match, printed_matches, span_pair, text_line};
+ghost use Rattle.grep_core.specs.Printing.{column_of, fields, is_printed, long_match, match_bytes, match_text, printed_match, printed_matches, text_line};
+ghost use Rattle.line_search.specs.LineMatchers.{span_pair};
 
 use crate::colors::{match_part, push_marked};
-use crate::fault::Fault;
 use crate::line::Line;
 use crate::output_options::{OutputOptions, Print};
 use crate::previews::{front, more_note};
@@ -15,6 +15,7 @@ use crate::printing::{
 use crate::progress::sum;
 use crate::role::Role;
 use crate::texts::piece;
+use line_search::Fault;
 use search_types::Span;
 use std::alloc::{AllocError, Global};
 

@@ -3,7 +3,7 @@ ghost use Rattle.std.specs.Prelude.{◌≡◌, ℕ, ◌+◌, ◌-◌, ◌<◌, �
 ghost use Rattle.std.specs.Io.KnownBytes.{Consumes, IsAtEnd};
 ghost use Rattle.hirscan.specs.Runs.{ReadsSome};
 
-use crate::fault::Fault;
+use line_search::Fault;
 use std::alloc::{AllocError, Global};
 use std::io::Read;
 use std::marker::Model;

@@ -1,18 +1,16 @@
 //! The result of searching a line.
 ghost use Rattle.std.specs.Prelude.{◌≡◌, Bool, IfOk, map, true};
 ghost use Rattle.grep_core.specs.Blocks.{bytes_or, seen_line};
-ghost use Rattle.grep_core.specs.Lines.{searched};
-ghost use Rattle.grep_core.specs.Printing.{span_pair};
-ghost use Rattle.grep_core.specs.Searchers.{IsMatchReported, SearchesFor, found_by};
+ghost use Rattle.line_search.specs.Lines.{searched};
+ghost use Rattle.line_search.specs.LineMatchers.{span_pair};
+ghost use Rattle.line_search.specs.Searchers.{IsMatchReported, SearchesFor, found_by};
 ghost use Rattle.grep_core.specs.Reporting.{needs_shown, needs_spans, with_needed_spans};
 ghost use Rattle.grep_core.specs.Report.{as_it_is, shown_of};
 
-use crate::fault::Fault;
-use crate::finder::Finder;
 use crate::output_options::{OutputOptions, Print};
 use crate::printing::shows_matches;
-use crate::replacing::Replaced;
 use crate::texts::{text_from, without_return};
+use line_search::{Fault, Finder, Replaced};
 use search_types::Span;
 use std::alloc::Global;
 

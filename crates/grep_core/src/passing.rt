@@ -2,21 +2,19 @@
 ghost use Rattle.std.specs.Prelude.{◌≡◌, ◌==◌, ◌++◌, ◌∷◌, [], ◌+◌, ◌<◌, ◌≤◌, ℕ, All, List, IfOk, OnOk, IsTrue, count_by, drop, false, true};
 ghost use Rattle.std.specs.Prelude.{length};
 ghost use Rattle.grep_core.specs.Blocks.{SearchesBy, finds_by, reported_bytes, counts_lines};
-ghost use Rattle.grep_core.specs.Candidates.{IsLineStart};
+ghost use Rattle.line_search.specs.Candidates.{IsLineStart};
 ghost use Rattle.grep_core.specs.ContextPrinting.{Waits};
-ghost use Rattle.grep_core.specs.Lines.{SplitLine, ended, split_lines};
+ghost use Rattle.line_search.specs.Lines.{SplitLine, ended, split_lines};
 ghost use Rattle.grep_core.specs.Skipping.{AreWhole, HasNoMatch, MaySkip, SkipsTo, held_of, shows_numbers};
-ghost use Rattle.grep_core.specs.Report.{LineMatcher};
-ghost use Rattle.grep_core.specs.Searchers.{Sought, found_by};
+ghost use Rattle.line_search.specs.LineMatchers.{LineMatcher};
+ghost use Rattle.line_search.specs.Searchers.{Sought, found_by};
 
-use crate::candidates::line_start;
 use crate::context_printer::{ContextPrinter, after_hidden, before_of, forget_waiting};
-use crate::fault::Fault;
-use crate::feeds::feed_at;
 use crate::line::Line;
 use crate::output_options::OutputOptions;
 use crate::progress::{Progress, Task, pass, sum};
 use crate::reporter::{prints_lines, report_line};
+use line_search::{Fault, feed_at, line_start};
 use std::alloc::Global;
 
 /// How many bytes are counted in one byte: no more than the greatest count that fits into it, and whole vectors.

@@ -1,6 +1,7 @@
 //! The beginnings of lines and matches that are too long, and what follows them.
 ghost use Rattle.std.specs.Prelude.{◌≡◌, IfOk, count_by, get_or, map, not, nat_lt, take, unwrap_or};
-ghost use Rattle.grep_core.specs.Printing.{cut_at, end_note, is_inner, more_note, span_pair};
+ghost use Rattle.grep_core.specs.Printing.{cut_at, end_note, is_inner, more_note};
+ghost use Rattle.line_search.specs.LineMatchers.{span_pair};
 
 use search_types::Span;
 use std::alloc::{AllocError, Global};

@@ -2,16 +2,17 @@
 ghost use Rattle.std.specs.Prelude.{◌≡◌, ℕ, ◌+◌, List, IfOk, OnOk};
 ghost use Rattle.grep_core.specs.Blocks.{reported_bytes, counts_lines};
 ghost use Rattle.grep_core.specs.ContextPrinting.{Waits};
-ghost use Rattle.grep_core.specs.Lines.{text_lines, split_lines};
-ghost use Rattle.grep_core.specs.Report.{LineMatcher, first_of, report_as, selected};
+ghost use Rattle.line_search.specs.Lines.{text_lines, split_lines};
+ghost use Rattle.line_search.specs.LineMatchers.{LineMatcher};
+ghost use Rattle.grep_core.specs.Report.{first_of, report_as, selected};
 ghost use Rattle.grep_core.specs.Selecting.{count_selected};
 ghost use Rattle.grep_core.specs.declared.progress.Task.{Task as TheTask};
 ghost use Rattle.grep_core.specs.declared.output_options.OutputOptions.{OutputOptions as TheOutputOptions};
 
-use crate::fault::Fault;
 use crate::output_options::OutputOptions;
 use crate::reporter::Reporter;
 use crate::separator_state::SeparatorState;
+use line_search::Fault;
 use std::alloc::Global;
 
 /// A task: an input with this name is searched, and `what` says what to print.

@@ -5,23 +5,22 @@ ghost use Rattle.std.specs.Io.KnownBytes.{Appends, IsAtEnd, Keeps};
 ghost use Rattle.std.specs.List.{position};
 ghost use Rattle.grep_core.specs.Blocks.{SearchesBy, finds_by, reported_bytes, counts_lines, Writes, ReadsAndWrites, WritesPart, IsOver};
 ghost use Rattle.grep_core.specs.ContextPrinting.{Waits};
-ghost use Rattle.grep_core.specs.Lines.{split_lines};
-ghost use Rattle.grep_core.specs.Report.{LineMatcher, counted_as, report, selected_count};
-ghost use Rattle.grep_core.specs.Searchers.{SearchesFor, found_by};
+ghost use Rattle.line_search.specs.Lines.{split_lines};
+ghost use Rattle.line_search.specs.LineMatchers.{LineMatcher};
+ghost use Rattle.grep_core.specs.Report.{counted_as, report, selected_count};
+ghost use Rattle.line_search.specs.Searchers.{SearchesFor, found_by};
 ghost use Rattle.grep_core.specs.Reporting.{needs_spans};
 ghost use Rattle.grep_core.specs.declared.progress.Task.{Task as TheTask};
 
 use crate::blocks::{report_block, report_one};
 use crate::context_printer::first_of;
-use crate::fault::Fault;
-use crate::feeds::feed_at;
-use crate::finder::Finder;
 use crate::line_buffer::LineBuffer;
 use crate::long_lines::{prints_matches, write_line};
 use crate::output_options::{OutputOptions, Print};
 use crate::progress::{Progress, Task};
 use crate::reporter::{Reporter, counted_as, is_over, report_end};
 use crate::separator_state::SeparatorState;
+use line_search::{Fault, Finder, feed_at};
 use std::alloc::Global;
 use std::io::{ErrorKind, Read, Write};
 

@@ -2,21 +2,22 @@
 ghost use Rattle.std.specs.Prelude.{◌≡◌, ◌++◌, ◌∷◌, [], ℕ, ◌+◌, Bool, List, Option, OnOk, IfOk, IsTrue, decimal, map, nat_lt, not, ◌&&◌};
 ghost use Rattle.std.specs.Prelude.{length, option_map, if◌then◌else◌};
 ghost use Rattle.grep_core.specs.ContextPrinting.{Item, Waits, item};
-ghost use Rattle.grep_core.specs.Lines.{TextLine};
-ghost use Rattle.grep_core.specs.Printing.{span_pair, text_line};
-ghost use Rattle.grep_core.specs.Report.{LineMatcher, first_of, report_as, selected, count_line, name_line, counted_as, shown_line, shown_spans};
+ghost use Rattle.line_search.specs.Lines.{TextLine};
+ghost use Rattle.line_search.specs.LineMatchers.{span_pair, LineMatcher};
+ghost use Rattle.grep_core.specs.Printing.{text_line};
+ghost use Rattle.grep_core.specs.Report.{first_of, report_as, selected, count_line, name_line, counted_as, shown_line, shown_spans};
 ghost use Rattle.grep_core.specs.Selecting.{count_selected};
 ghost use Rattle.grep_core.specs.Reporting.{shown, added, added_matches, counts_matches, prints_lines, reported_lines, may_select, still_reported, count_in_all};
 ghost use Rattle.grep_core.specs.declared.output_options.OutputOptions.{OutputOptions as TheOutputOptions};
 
 use crate::colors::{Part, push_marked};
 use crate::context_printer::{ContextPrinter, next_line, see_end};
-use crate::fault::Fault;
 use crate::line::Line;
 use crate::output_options::{OutputOptions, Print};
 use crate::printing::push_name_before;
 use crate::progress::sum;
 use crate::separator_state::SeparatorState;
+use line_search::Fault;
 use search_types::Span;
 use std::alloc::{AllocError, Global};
 

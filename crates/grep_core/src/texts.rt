@@ -1,6 +1,6 @@
 //! Parts of a text.
 ghost use Rattle.std.specs.Prelude.{◌≡◌, drop, slice_range};
-ghost use Rattle.grep_core.specs.Lines.{without_return};
+ghost use Rattle.line_search.specs.Lines.{without_return};
 
 /// The part of a line between two offsets. It is empty if the end is before the start, and it stops at the end of the line.
 pub(crate) fn piece(line: &[u8], start: usize, end: usize) -> &[u8]

@@ -1,7 +1,7 @@
 -- What is asked for, part by part.
 use Rattle.std.proofs.Common.{◌≡◌, ℕ, Bool, List, Option, ap, ◌∙◌}
 use Rattle.std.specs.Borrow.{Bor}
-use Rattle.grep_core.specs.declared.patterns.PatternOptions.{PatternOptions}
+use Rattle.line_search.specs.declared.patterns.PatternOptions.{PatternOptions}
 use Rattle.grep_core.specs.declared.output_options.OutputOptions.{OutputOptions}
 use Rattle.hirgrep_main.specs.declared.asked.Asked.{Asked}
 use Rattle.hirgrep_main.specs.declared.asked.Devices.{Devices}

@@ -1,7 +1,7 @@
 -- What came of files stays, whatever comes of the next ones.
 use Rattle.std.proofs.Common.{◌∙◌, ◌≡◌, ℕ, Bool, true, false, if◌then◌else◌, ◌||◌, ◌&&◌, nat_lt, ap, sym, subst, refl}
 use Rattle.std.specs.Prelude.{Result, Ok, Err}
-use Rattle.grep_core.specs.declared.fault.Fault.{Fault}
+use Rattle.line_search.specs.declared.fault.Fault.{Fault}
 use Rattle.grep_core.specs.declared.output_options.Print.{Print}
 use Rattle.hirgrep_main.specs.declared.outcome.Outcome.{Outcome}
 use Rattle.hirgrep_main.specs.Decisions.{counted, prints_nothing}

@@ -4,12 +4,12 @@ use Rattle.std.specs.Prelude.{Option, Some, None, IfErr, IfOk, IfSome, OnOk, Res
 use Rattle.std.specs.Io.KnownBytes.{Appends, Consumes}
 use Rattle.std.proofs.KnownBytes.{Appends-nil}
 use Rattle.std.specs.Fmt.{option_append}
-use Rattle.grep_core.specs.declared.fault.Fault.{Fault}
+use Rattle.line_search.specs.declared.fault.Fault.{Fault}
 use Rattle.grep_core.specs.declared.output_options.OutputOptions.{OutputOptions}
 use Rattle.grep_core.specs.declared.output_options.Print.TheVariants.{Nothing}
-use Rattle.grep_core.specs.Report.{LineMatcher}
+use Rattle.line_search.specs.LineMatchers.{LineMatcher}
 use Rattle.grep_core.specs.Reporting.{needs_spans, prints_lines}
-use Rattle.grep_core.specs.Searchers.{SearchesFor, Sought, found_by}
+use Rattle.line_search.specs.Searchers.{SearchesFor, Sought, found_by}
 use Rattle.hirgrep_main.specs.declared.binary.Binary.{Binary}
 use Rattle.hirgrep_main.specs.declared.binary.Binary.TheVariants.{AsText, Notice, NoMatch}
 use Rattle.hirgrep_main.specs.Binaries.{first_len, has_zero, is_binary, notices, options_by, remaining_of, searched_bytes}

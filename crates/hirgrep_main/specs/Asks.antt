@@ -6,7 +6,7 @@ use Rattle.clap.specs.Words.{first_value}
 use Rattle.clap.specs.declared.parser.matches.Found.{Found}
 use Rattle.grep_options.specs.Options.{is_set, is_text, limit_given, number_given}
 use Rattle.grep_core.specs.declared.colors.Colors.{Colors}
-use Rattle.grep_core.specs.declared.patterns.PatternOptions.{PatternOptions}
+use Rattle.line_search.specs.declared.patterns.PatternOptions.{PatternOptions}
 use Rattle.grep_core.specs.declared.output_options.Context.{Context}
 use Rattle.grep_core.specs.declared.output_options.Print.{Print}
 use Rattle.grep_core.specs.declared.output_options.Print.TheVariants.{Lines, Matches, Count, CountMatches, NameIfAny, NameIfNone, Nothing}

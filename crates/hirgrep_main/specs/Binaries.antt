@@ -1,7 +1,7 @@
 -- What is printed of inputs with zero bytes, under --binary-files and -I.
 use Rattle.std.specs.Prelude.{ℕ, ◌==◌, Bool, true, false, ◌&&◌, nat_lt, List, [], map, take, codes, Option, option_map, Result, Ok, Err, if◌then◌else◌}
 use Rattle.std.specs.List.{list_any}
-use Rattle.grep_core.specs.declared.fault.Fault.{Fault}
+use Rattle.line_search.specs.declared.fault.Fault.{Fault}
 use Rattle.grep_core.specs.declared.output_options.OutputOptions.{OutputOptions}
 use Rattle.grep_core.specs.declared.output_options.Print.{Print}
 use Rattle.grep_core.specs.declared.output_options.Print.TheVariants.{Nothing}

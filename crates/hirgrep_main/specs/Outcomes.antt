@@ -1,7 +1,7 @@
 -- What is recorded about the files that were searched, and the exit status that it gives.
 use Rattle.std.specs.Prelude.{◌≡◌, ℕ, Bool, true, false, ◌&&◌, ◌||◌, nat_lt, Result, Ok, Err, if◌then◌else◌}
-use Rattle.grep_core.specs.declared.fault.Fault.{Fault}
-use Rattle.grep_core.specs.declared.fault.Fault.TheVariants.{Read, Write, NoMemory, TooLong, TooLarge}
+use Rattle.line_search.specs.declared.fault.Fault.{Fault}
+use Rattle.line_search.specs.declared.fault.Fault.TheVariants.{Read, Write, NoMemory, TooLong, TooLarge}
 use Rattle.grep_core.specs.declared.separator_state.SeparatorState.{SeparatorState}
 use Rattle.grep_core.specs.declared.separator_state.SeparatorState.TheVariants.{NonePrinted, EarlierPrinted}
 use Rattle.grep_core.specs.declared.output_options.Print.{Print}

@@ -1,11 +1,12 @@
 -- What is printed for one input, and how many of its lines are counted.
 use Rattle.std.specs.Prelude.{◌≡◌, ℕ, Bool, true, false, List, ◌++◌, take, Option, Result, IfErr, IfOk, OnOk}
 use Rattle.std.specs.Io.KnownBytes.{Appends}
-use Rattle.grep_core.specs.declared.fault.Fault.{Fault}
+use Rattle.line_search.specs.declared.fault.Fault.{Fault}
 use Rattle.grep_core.specs.declared.output_options.OutputOptions.{OutputOptions}
 use Rattle.grep_core.specs.declared.separator_state.SeparatorState.TheVariants.{NonePrinted}
 use Rattle.grep_core.specs.Headings.{heading, report_under}
-use Rattle.grep_core.specs.Report.{LineMatcher, counted_as, report, selected_count}
+use Rattle.line_search.specs.LineMatchers.{LineMatcher}
+use Rattle.grep_core.specs.Report.{counted_as, report, selected_count}
 use Rattle.hirgrep_main.specs.Binaries.{is_binary, options_by, searched_bytes}
 use Rattle.hirgrep_main.specs.Decisions.{is_headed}
 use Rattle.hirgrep_main.specs.Outcomes.{known_of}

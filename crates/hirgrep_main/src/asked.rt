@@ -8,8 +8,9 @@ ghost use Rattle.hirgrep_main.specs.Asks.{group_given, has_columns, has_heading,
 
 use crate::binary::{Binary, binary_of};
 use clap::ArgMatches;
-use grep_core::{Colors, Context, GroupSeparator, OutputOptions, PatternOptions, Print};
+use grep_core::{Colors, Context, GroupSeparator, OutputOptions, Print};
 use grep_options::{is_set, limit, number};
+use line_search::PatternOptions;
 use std::env;
 use std::io::IsTerminal;
 use std::rt::Runtime;

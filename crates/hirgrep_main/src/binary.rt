@@ -6,8 +6,9 @@ ghost use Rattle.grep_options.specs.Options.{is_set};
 ghost use Rattle.hirgrep_main.specs.Binaries.{binary_by, is_noticed, options_by};
 
 use clap::ArgMatches;
-use grep_core::{Fault, OutputOptions, Print};
+use grep_core::{OutputOptions, Print};
 use grep_options::is_set;
+use line_search::Fault;
 
 /// What is printed of an input with a zero byte among its first bytes.
 #[derive(Clone, Copy, PartialEq, Eq)]

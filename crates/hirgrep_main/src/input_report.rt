@@ -1,7 +1,7 @@
 //! The report of one input.
 ghost use Rattle.std.specs.Prelude.{◌≡◌, ◌++◌, IfSome};
 ghost use Rattle.grep_core.specs.Reporting.{needs_spans};
-ghost use Rattle.grep_core.specs.Searchers.{SearchesFor, found_by};
+ghost use Rattle.line_search.specs.Searchers.{SearchesFor, found_by};
 ghost use Rattle.hirgrep_main.specs.Binaries.{has_zero, searched_bytes};
 ghost use Rattle.hirgrep_main.specs.Texts.{printed_name, without_controls};
 ghost use Rattle.hirgrep_main.specs.Tasks.{IsInputReported, count_for, count_of, report_for, report_in, whole_report_for, whole_report_in};
@@ -13,7 +13,8 @@ use crate::outcome::Outcome;
 use crate::reporting::report_reader;
 use crate::shown::without_controls;
 use crate::task::Task;
-use grep_core::{Fault, Finder, Headed};
+use grep_core::Headed;
+use line_search::{Fault, Finder};
 use std::io::{Read, Write};
 use std::rt::Runtime;
 

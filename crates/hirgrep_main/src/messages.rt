@@ -3,9 +3,9 @@
 use crate::asked::Asked;
 use crate::loops::loop_offset;
 use crate::shown::Shown;
-use grep_core::{Fault, SearcherError};
 use hirhead::pointed;
 use lazy_dfa::BuildError;
+use line_search::{Fault, SearcherError};
 use pattern_search::PatternError;
 use pattern_text::{Config, ParseError};
 use std::alloc::{AllocError, Global};

@@ -6,7 +6,8 @@ ghost use Rattle.hirgrep_main.specs.Outcomes.{with_failure, with_file, with_line
 
 use crate::asked::Asked;
 use crate::messages::{Causes, report_error, report_fault, report_reason};
-use grep_core::{Fault, Finder, Print, SeparatorState};
+use grep_core::{Print, SeparatorState};
+use line_search::{Fault, Finder};
 use std::io;
 use std::io::ErrorKind;
 use std::rt::Runtime;

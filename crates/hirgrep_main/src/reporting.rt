@@ -1,6 +1,6 @@
 //! What is printed for one input, with the options that depend on it.
 ghost use Rattle.std.specs.Prelude.{◌≡◌, IfSome};
-ghost use Rattle.grep_core.specs.Searchers.{SearchesFor, found_by};
+ghost use Rattle.line_search.specs.Searchers.{SearchesFor, found_by};
 ghost use Rattle.grep_core.specs.Reporting.{needs_spans};
 ghost use Rattle.hirgrep_main.specs.Decisions.{is_headed};
 ghost use Rattle.hirgrep_main.specs.Tasks.{IsInputReported, count_for, options_for, options_in, report_for, whole_report_for};
@@ -8,7 +8,8 @@ ghost use Rattle.hirgrep_main.specs.Tasks.{IsInputReported, count_for, options_f
 use crate::binary::{options_by, prints_lines};
 use crate::outcome::Outcome;
 use crate::task::Task;
-use grep_core::{Fault, Finder, Headed, OutputOptions, Print, report_headed, report_input};
+use grep_core::{Headed, OutputOptions, Print, report_headed, report_input};
+use line_search::{Fault, Finder};
 use std::alloc::Global;
 use std::io::{Read, Write};
 

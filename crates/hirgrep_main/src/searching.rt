@@ -1,9 +1,9 @@
 //! Searches files, one after the other.
 ghost use Rattle.std.specs.Prelude.{◌≡◌, ℕ, Bool, true, false, None, Result, Ok, IfErr, IfOk, IfSome, OnOk, codes, map, string_bytes, if◌then◌else◌};
-ghost use Rattle.grep_core.specs.Meant.{written};
-ghost use Rattle.grep_core.specs.Searchers.{SearchesFor, found_by};
+ghost use Rattle.line_search.specs.Meant.{written};
+ghost use Rattle.line_search.specs.Searchers.{SearchesFor, found_by};
 ghost use Rattle.grep_core.specs.Reporting.{needs_spans};
-ghost use Rattle.grep_core.specs.declared.fault.Fault.{Fault as TheFault};
+ghost use Rattle.line_search.specs.declared.fault.Fault.{Fault as TheFault};
 ghost use Rattle.hirgrep_main.specs.Decisions.{counted, is_most, may_run_on, prints_all, prints_names_if_none, reads_found, reads_named, selects_none};
 ghost use Rattle.hirgrep_main.specs.Decisions.{shows_names};
 ghost use Rattle.hirgrep_main.specs.declared.asked.Directories.TheVariants.{Reject, Skip};
@@ -32,9 +32,9 @@ use crate::smart_case::ignores_case;
 use crate::task::{Task, shown_name};
 use crate::texts::separated_name;
 use crate::walking::{Kind, is_output, kind_of, output_file, push_folder, push_found};
-use grep_core::{
-    Fault, Finder, Headed, LinePatterns, OutputOptions, PatternOptions, Print, SearcherError,
-    config_of, needs_spans, pattern_source,
+use grep_core::{Headed, OutputOptions, Print, needs_spans};
+use line_search::{
+    Fault, Finder, LinePatterns, PatternOptions, SearcherError, config_of, pattern_source,
 };
 use std::alloc::{AllocError, Global};
 use std::io::{IsTerminal, Read, Write};

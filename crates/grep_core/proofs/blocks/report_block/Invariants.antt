@@ -1,8 +1,8 @@
 use Rattle.std.proofs.Common.{◌≡◌, ◌++◌, ◌-◌, ◌≤◌, ℕ, List, drop, take}
 use Rattle.grep_core.specs.Blocks.{SearchesBy, finds_by, reported_bytes, counts_lines}
-use Rattle.grep_core.specs.Candidates.{IsLineStart}
+use Rattle.line_search.specs.Candidates.{IsLineStart}
 use Rattle.grep_core.specs.ContextPrinting.{Waits}
-use Rattle.grep_core.specs.Lines.{split_lines}
+use Rattle.line_search.specs.Lines.{split_lines}
 use Rattle.grep_core.proofs.blocks.report_block.Given as goal
 
 abbrev pub invariant-loop-done : goal.invariant-loop-done

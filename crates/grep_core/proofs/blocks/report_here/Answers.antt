@@ -2,7 +2,8 @@ use Rattle.std.proofs.Common.{◌≡◌, ◌+◌, ◌-◌, ◌∙◌, ◌==◌, 
 use Rattle.std.proofs.lemmas.List.{take_rest}
 use Rattle.std.specs.List.{position}
 use Rattle.grep_core.specs.Blocks.{finds_by, reported_bytes, counts_lines}
-use Rattle.grep_core.proofs.JoinLemmas.{here_told, here_counted, starts_behind}
+use Rattle.grep_core.proofs.JoinLemmas.{here_told, here_counted}
+use Rattle.line_search.proofs.ForCallers.{starts_behind}
 use Rattle.grep_core.proofs.blocks.report_here.Goals as goal
 
 pub returns-clause-goes_on : goal.returns-clause-goes_on

@@ -1,8 +1,7 @@
 use Rattle.std.proofs.Common.{◌+◌, ◌++◌, ◌∙◌, ap, length, map}
 use Rattle.grep_core.specs.Blocks.{finds_by, seen_line}
-use Rattle.grep_core.specs.Lines.{SplitLine, TextLine, numbered}
-use Rattle.grep_core.specs.Printing.{span_pair}
-use Rattle.grep_core.specs.Report.{ShownLine}
+use Rattle.line_search.specs.Lines.{SplitLine, TextLine, numbered}
+use Rattle.line_search.specs.LineMatchers.{span_pair, ShownLine}
 use Rattle.grep_core.proofs.LongLineLemmas.{passed_counted, passed_lines}
 use Rattle.grep_core.proofs.SeenLemmas.{shown_so}
 use Rattle.grep_core.proofs.blocks.report_one.Goals as goal

@@ -1,6 +1,7 @@
 use Rattle.std.proofs.Common.{◌++◌, map}
 use Rattle.grep_core.specs.Colors.{marked_from}
-use Rattle.grep_core.specs.Printing.{moved, span_pair}
+use Rattle.grep_core.specs.Printing.{moved}
+use Rattle.line_search.specs.LineMatchers.{span_pair}
 use Rattle.grep_core.proofs.MarkLemmas.{next_match}
 use Rattle.grep_core.proofs.colors.push_matches.Goals as goal
 

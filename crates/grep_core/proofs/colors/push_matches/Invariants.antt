@@ -1,6 +1,7 @@
 use Rattle.std.proofs.Common.{◌≡◌, ◌++◌, map, drop}
 use Rattle.grep_core.specs.Colors.{marked_from}
-use Rattle.grep_core.specs.Printing.{moved, span_pair}
+use Rattle.grep_core.specs.Printing.{moved}
+use Rattle.line_search.specs.LineMatchers.{span_pair}
 use Rattle.grep_core.proofs.colors.push_matches.Given as goal
 
 abbrev pub invariant-loop-span : goal.invariant-loop-span

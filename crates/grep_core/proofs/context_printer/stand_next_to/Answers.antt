@@ -1,6 +1,7 @@
 use Rattle.std.proofs.Common.{map, option_map, Bor, List, ℕ}
 use Rattle.grep_core.specs.ContextPrinting.{item, print_item}
-use Rattle.grep_core.specs.Printing.{span_pair, text_line}
+use Rattle.line_search.specs.LineMatchers.{span_pair}
+use Rattle.grep_core.specs.Printing.{text_line}
 use Rattle.grep_core.proofs.CourseLemmas.{beside}
 use Rattle.grep_core.proofs.context_printer.stand_next_to.Goals as goal
 

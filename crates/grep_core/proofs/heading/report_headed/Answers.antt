@@ -2,7 +2,7 @@ use Rattle.std.proofs.Common.{◌∙◌, ap, false, sym}
 use Rattle.grep_core.specs.declared.separator_state.SeparatorState.TheVariants.{NonePrinted}
 use Rattle.grep_core.specs.Headings.{heading}
 use Rattle.grep_core.specs.Report.{report}
-use Rattle.grep_core.specs.Searchers.{found_by}
+use Rattle.line_search.specs.Searchers.{found_by}
 use Rattle.grep_core.proofs.HeadingLemmas.{begun_all, begun_part, begun_under, if_known}
 use Rattle.grep_core.proofs.heading.report_headed.Goals as goal
 

@@ -1,6 +1,7 @@
 use Rattle.std.proofs.Common.{◌≡◌, ◌++◌, map, drop, option_map}
 use Rattle.std.specs.List.{flat_map}
-use Rattle.grep_core.specs.Printing.{printed_match, span_pair, text_line}
+use Rattle.grep_core.specs.Printing.{printed_match, text_line}
+use Rattle.line_search.specs.LineMatchers.{span_pair}
 use Rattle.grep_core.proofs.items.push_all.Given as goal
 
 abbrev pub invariant-loop-span : goal.invariant-loop-span

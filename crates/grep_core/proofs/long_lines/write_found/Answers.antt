@@ -1,8 +1,8 @@
 use Rattle.std.proofs.Common.{Bool, ◌+◌, ◌∙◌, ◌∷◌, ap, length, subst}
 use Rattle.grep_core.specs.Blocks.{finds_by, reported_bytes}
-use Rattle.grep_core.specs.Lines.{SplitLine, numbered, searched}
+use Rattle.line_search.specs.Lines.{SplitLine, numbered, searched}
 use Rattle.grep_core.specs.LongLines.{Sends}
-use Rattle.grep_core.specs.Patterns.{spans_in}
+use Rattle.line_search.specs.Patterns.{spans_in}
 use Rattle.grep_core.specs.Reporting.{still_reported}
 use Rattle.grep_core.proofs.LongLineLemmas.{all_begun, found_in, passed_counted, passed_lines, read_by, seen_by}
 use Rattle.grep_core.proofs.long_lines.write_found.Goals as goal

@@ -1,5 +1,6 @@
 use Rattle.std.proofs.Common.{List, ℕ, Bor, option_map}
-use Rattle.grep_core.specs.Printing.{printed_match, span_pair, text_line}
+use Rattle.grep_core.specs.Printing.{printed_match, text_line}
+use Rattle.line_search.specs.LineMatchers.{span_pair}
 use Rattle.grep_core.specs.declared.role.Role.TheVariants.{Selected}
 use Rattle.grep_core.proofs.LongLineLemmas.{begun_pushed, none_begun, part_begun, sends_pushed, sent_begun}
 use Rattle.grep_core.proofs.long_lines.write_match.Goals as goal

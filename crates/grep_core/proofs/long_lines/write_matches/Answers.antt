@@ -1,8 +1,9 @@
 use Rattle.std.proofs.Common.{◌∙◌, ◌+◌, ◌-◌, ℕ, List, Bor, length, option_map, ap, arith, subst}
-use Rattle.grep_core.specs.Bounded.{line_pattern}
-use Rattle.grep_core.specs.LongLines.{IsNextSpan}
-use Rattle.grep_core.specs.Printing.{printed_match, span_pair, text_line}
-use Rattle.grep_core.specs.Searchers.{Sought}
+use Rattle.line_search.specs.Bounded.{line_pattern}
+use Rattle.line_search.specs.FoundSpans.{IsNextSpan}
+use Rattle.grep_core.specs.Printing.{printed_match, text_line}
+use Rattle.line_search.specs.LineMatchers.{span_pair}
+use Rattle.line_search.specs.Searchers.{Sought}
 use Rattle.grep_core.specs.declared.role.Role.TheVariants.{Selected}
 use Rattle.grep_core.proofs.LongLineLemmas.{none_begun, stands_counted, stands_failed, stands_first, stands_next, stands_over}
 use Rattle.grep_core.proofs.long_lines.write_matches.Goals as goal

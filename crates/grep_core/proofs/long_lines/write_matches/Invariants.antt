@@ -1,9 +1,10 @@
 use Rattle.std.proofs.Common.{◌≡◌, ◌-◌, List, option_map}
 use Rattle.regex_hir.specs.Re.{Re}
 use Rattle.pattern_search.specs.Texts.{AreReadAs}
-use Rattle.grep_core.specs.Bounded.{line_pattern}
-use Rattle.grep_core.specs.Meant.{line_config}
-use Rattle.grep_core.specs.Printing.{printed_match, span_pair, text_line}
+use Rattle.line_search.specs.Bounded.{line_pattern}
+use Rattle.line_search.specs.Meant.{line_config}
+use Rattle.grep_core.specs.Printing.{printed_match, text_line}
+use Rattle.line_search.specs.LineMatchers.{span_pair}
 use Rattle.grep_core.specs.declared.role.Role.TheVariants.{Selected}
 use Rattle.grep_core.proofs.LongLineLemmas.{StandsAt}
 use Rattle.grep_core.proofs.long_lines.write_matches.Given as goal

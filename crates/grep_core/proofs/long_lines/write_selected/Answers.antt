@@ -1,6 +1,6 @@
 use Rattle.std.proofs.Common.{◌∷◌, ◌∙◌, List, ℕ, Bor, option_map, ap, sym}
 use Rattle.std.specs.List.{flat_map}
-use Rattle.grep_core.specs.Patterns.{spans_in}
+use Rattle.line_search.specs.Patterns.{spans_in}
 use Rattle.grep_core.specs.Printing.{printed_match, printed_matches, text_line}
 use Rattle.grep_core.specs.Reporting.{shown, still_reported}
 use Rattle.grep_core.specs.declared.role.Role.TheVariants.{Selected}

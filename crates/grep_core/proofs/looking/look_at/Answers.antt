@@ -1,5 +1,5 @@
 use Rattle.std.proofs.Common.{ap, ◌∙◌}
-use Rattle.grep_core.specs.Lines.{searched}
+use Rattle.line_search.specs.Lines.{searched}
 use Rattle.grep_core.proofs.looking.look_at.Goals as goal
 
 pub returns-in-Ok-clause-shown : goal.returns-in-Ok-clause-shown

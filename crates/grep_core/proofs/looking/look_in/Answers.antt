@@ -1,9 +1,9 @@
 use Rattle.std.proofs.Common.{◌≡◌, ◌∙◌, true, map, sym, ap, subst}
 use Rattle.std.specs.Prelude.{Bool}
-use Rattle.grep_core.specs.Lines.{SplitLine, searched}
-use Rattle.grep_core.specs.Printing.{span_pair}
-use Rattle.grep_core.specs.Report.{ShownLine, as_it_is}
-use Rattle.grep_core.specs.Searchers.{Sought, AreReported, SearchesFor, found_by}
+use Rattle.line_search.specs.Lines.{SplitLine, searched}
+use Rattle.line_search.specs.LineMatchers.{span_pair, ShownLine}
+use Rattle.grep_core.specs.Report.{as_it_is}
+use Rattle.line_search.specs.Searchers.{Sought, AreReported, SearchesFor, found_by}
 use Rattle.grep_core.specs.Reporting.{needs_shown, needs_spans}
 use Rattle.grep_core.proofs.SeenLemmas.{none_shown, none_needed, all_needed, moved_by, progress_by, replaced_needed, spans_by, spans_needed}
 use Rattle.grep_core.proofs.SeenLemmas.{searched_by}

@@ -1,5 +1,5 @@
 use Rattle.std.proofs.Common.{◌++◌, ◌∙◌, ap, drop, map}
-use Rattle.grep_core.specs.Printing.{span_pair}
+use Rattle.line_search.specs.LineMatchers.{span_pair}
 use Rattle.grep_core.proofs.SeenLemmas.{replaced_as}
 use Rattle.grep_core.proofs.looking.replace_in.Goals as goal
 

@@ -1,6 +1,6 @@
 use Rattle.std.proofs.Common.{◌≡◌, ◌≤◌, ◌+◌, ◌-◌, ◌∙◌, ℕ, List, count_by, drop, length-take, take, sym, ap, ap₂, arith}
 use Rattle.std.proofs.lemmas.List.Sums.{count_by-le-length}
-use Rattle.grep_core.proofs.BlockLemmas.{is_feed}
+use Rattle.line_search.proofs.ForCallers.{is_feed}
 use Rattle.grep_core.proofs.WholeLemmas.{feeds_on}
 use Rattle.grep_core.proofs.passing.count_feeds.Goals as goal
 

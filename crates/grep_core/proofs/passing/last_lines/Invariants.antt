@@ -1,5 +1,5 @@
 use Rattle.std.proofs.Common.{◌≤◌, ◌-◌, ◌==◌, count_by, drop, length}
-use Rattle.grep_core.specs.Candidates.{IsLineStart}
+use Rattle.line_search.specs.Candidates.{IsLineStart}
 use Rattle.grep_core.proofs.passing.last_lines.Given as goal
 
 abbrev pub invariant-loop-found : goal.invariant-loop-found

@@ -1,7 +1,7 @@
 use Rattle.std.proofs.Common.{◌≡◌, ◌≤◌, ◌<◌, ◌+◌, ◌-◌, ◌∙◌, ◌==◌, ℕ, List, Some, length, take, drop, sym, ap₂, subst, arith}
 use Rattle.std.proofs.lemmas.List.{take_rest, length-drop}
 use Rattle.std.specs.List.{position}
-use Rattle.grep_core.proofs.BlockLemmas.{first_within}
+use Rattle.line_search.proofs.ForCallers.{first_within}
 use Rattle.grep_core.proofs.PassLemmas.{all_told, passes_none, then_passes, passes_line}
 use Rattle.grep_core.proofs.passing.report_each.Goals as goal
 

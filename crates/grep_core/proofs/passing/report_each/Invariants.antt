@@ -1,7 +1,7 @@
 use Rattle.std.proofs.Common.{◌-◌, ◌≤◌, drop, length}
 use Rattle.grep_core.specs.ContextPrinting.{Waits}
 use Rattle.grep_core.specs.Skipping.{SkipsTo}
-use Rattle.grep_core.specs.Report.{LineMatcher}
+use Rattle.line_search.specs.LineMatchers.{LineMatcher}
 use Rattle.grep_core.proofs.passing.report_each.Given as goal
 
 abbrev pub invariant-loop-alloc : goal.invariant-loop-alloc

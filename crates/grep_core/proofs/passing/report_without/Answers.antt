@@ -1,5 +1,5 @@
 use Rattle.std.proofs.Common.{◌+◌, ◌++◌, ◌∙◌, [], ap, length, sym}
-use Rattle.grep_core.specs.Lines.{TextLine, ended, numbered}
+use Rattle.line_search.specs.Lines.{TextLine, ended, numbered}
 use Rattle.grep_core.specs.Report.{as_it_is}
 use Rattle.grep_core.proofs.LongLineLemmas.{passed_counted, passed_lines}
 use Rattle.grep_core.proofs.SeenLemmas.{shown_so, shown_without}

@@ -1,6 +1,6 @@
 use Rattle.std.proofs.lemmas.Result.{on_ok_weaker}
 use Rattle.grep_core.specs.Blocks.{finds_by}
-use Rattle.grep_core.specs.Lines.{split_lines}
+use Rattle.line_search.specs.Lines.{split_lines}
 use Rattle.grep_core.proofs.RunLemmas.{all_lack}
 use Rattle.grep_core.proofs.passing.skip_lines.Goals as goal
 

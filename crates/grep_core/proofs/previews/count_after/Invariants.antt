@@ -1,5 +1,5 @@
 use Rattle.std.proofs.Common.{◌≡◌, ◌≤◌, not, nat_lt, map, count_by, take}
-use Rattle.grep_core.specs.Printing.{span_pair}
+use Rattle.line_search.specs.LineMatchers.{span_pair}
 use Rattle.grep_core.proofs.previews.count_after.Given as goal
 
 abbrev pub invariant-loop-span : goal.invariant-loop-span

@@ -1,6 +1,7 @@
 use Rattle.std.proofs.Common.{◌≡◌, ◌++◌, map, drop, option_map}
 use Rattle.std.specs.List.{flat_map}
-use Rattle.grep_core.specs.Printing.{printed_for, span_pair, text_line}
+use Rattle.grep_core.specs.Printing.{printed_for, text_line}
+use Rattle.line_search.specs.LineMatchers.{span_pair}
 use Rattle.grep_core.proofs.printing.push_for_each.Given as goal
 
 abbrev pub invariant-loop-span : goal.invariant-loop-span

@@ -1,6 +1,6 @@
 use Rattle.std.proofs.Common.{◌++◌}
 use Rattle.grep_core.specs.Blocks.{finds_by, reported_bytes}
-use Rattle.grep_core.specs.Lines.{split_lines}
+use Rattle.line_search.specs.Lines.{split_lines}
 use Rattle.grep_core.proofs.WriteLemmas.{appends_kept, whole_part}
 use Rattle.grep_core.proofs.reading.finish.Goals as goal
 

@@ -1,5 +1,5 @@
 use Rattle.grep_core.specs.declared.progress.Task.{Task}
-use Rattle.grep_core.specs.Searchers.{found_by}
+use Rattle.line_search.specs.Searchers.{found_by}
 use Rattle.grep_core.specs.Reporting.{with_needed_spans}
 use Rattle.grep_core.proofs.SeenLemmas.{moved_by}
 use Rattle.grep_core.proofs.TextLemmas.{text_part, text_written, rest_part, text_counted}

@@ -1,6 +1,6 @@
 use Rattle.std.proofs.Common.{◌++◌, ◌+◌, drop, refl, sym, ◌∙◌}
 use Rattle.grep_core.specs.Blocks.{finds_by}
-use Rattle.grep_core.specs.Lines.{split_lines}
+use Rattle.line_search.specs.Lines.{split_lines}
 use Rattle.grep_core.proofs.LongLineLemmas.{first_begun, first_written, same_writes}
 use Rattle.grep_core.proofs.reading.write_first_line.Goals as goal
 

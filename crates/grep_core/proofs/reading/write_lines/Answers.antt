@@ -1,5 +1,5 @@
 use Rattle.grep_core.specs.Blocks.{finds_by, reported_bytes}
-use Rattle.grep_core.specs.Lines.{split_lines}
+use Rattle.line_search.specs.Lines.{split_lines}
 use Rattle.grep_core.proofs.WriteLemmas.{none_part, shown_written, shown_part}
 use Rattle.grep_core.proofs.reading.write_lines.Goals as goal
 

@@ -1,6 +1,6 @@
 use Rattle.std.proofs.Common.{◌++◌, sym}
 use Rattle.grep_core.specs.Blocks.{finds_by}
-use Rattle.grep_core.specs.Lines.{split_lines}
+use Rattle.line_search.specs.Lines.{split_lines}
 use Rattle.grep_core.proofs.WriteLemmas.{ended_written, ended_counted, ended_part, over_written, over_part}
 use Rattle.grep_core.proofs.reading.write_rest.Goals as goal
 

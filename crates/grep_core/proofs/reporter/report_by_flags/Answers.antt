@@ -1,6 +1,7 @@
 use Rattle.std.proofs.Common.{◌∙◌, map, option_map, sym}
 use Rattle.grep_core.specs.ContextPrinting.{item}
-use Rattle.grep_core.specs.Printing.{span_pair, text_line}
+use Rattle.line_search.specs.LineMatchers.{span_pair}
+use Rattle.grep_core.specs.Printing.{text_line}
 use Rattle.grep_core.proofs.TellingLemmas.{lines_told, besides_told}
 use Rattle.grep_core.proofs.reporter.report_by_flags.Goals as goal
 

@@ -1,6 +1,7 @@
 use Rattle.std.proofs.Common.{◌≡◌, ℕ, ◌+◌, length, map, sym}
 use Rattle.std.proofs.lemmas.List.{length-map}
-use Rattle.grep_core.specs.Printing.{span_pair, text_line}
+use Rattle.line_search.specs.LineMatchers.{span_pair}
+use Rattle.grep_core.specs.Printing.{text_line}
 use Rattle.grep_core.specs.Reporting.{added, number_of}
 use Rattle.grep_core.specs.declared.output_options.Print.{Print}
 use Rattle.grep_core.specs.declared.reporter.Reporter.{Reporter}

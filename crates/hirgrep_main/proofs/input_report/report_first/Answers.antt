@@ -1,4 +1,4 @@
-use Rattle.grep_core.specs.Searchers.{found_by}
+use Rattle.line_search.specs.Searchers.{found_by}
 use Rattle.hirgrep_main.specs.Tasks.{IsInputReported, count_for, report_for, whole_report_for}
 use Rattle.hirgrep_main.proofs.ReportLemmas.{if_searched}
 use Rattle.hirgrep_main.proofs.input_report.report_first.Goals as goal

@@ -1,6 +1,6 @@
 use Rattle.std.proofs.Common.{◌∙◌, ℕ, List, subst}
 use Rattle.std.specs.Prelude.{IfSome}
-use Rattle.grep_core.specs.Searchers.{found_by}
+use Rattle.line_search.specs.Searchers.{found_by}
 use Rattle.hirgrep_main.specs.Tasks.{IsInputReported, count_of, report_in, whole_report_in}
 use Rattle.hirgrep_main.proofs.ReportLemmas.{if_any, nothing_written}
 use Rattle.hirgrep_main.proofs.input_report.report_hidden.Goals as goal

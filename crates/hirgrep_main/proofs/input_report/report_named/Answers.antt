@@ -1,5 +1,5 @@
 use Rattle.grep_core.specs.Report.{counted_as, selected_count}
-use Rattle.grep_core.specs.Searchers.{found_by}
+use Rattle.line_search.specs.Searchers.{found_by}
 use Rattle.hirgrep_main.specs.Decisions.{is_headed}
 use Rattle.hirgrep_main.specs.Tasks.{IsInputReported, options_in, report_by, whole_report_by}
 use Rattle.hirgrep_main.proofs.ReportLemmas.{if_text}

@@ -1,6 +1,6 @@
 use Rattle.std.proofs.Common.{Bool, subst, sym}
 use Rattle.std.specs.Prelude.{IfSome}
-use Rattle.grep_core.specs.Searchers.{found_by}
+use Rattle.line_search.specs.Searchers.{found_by}
 use Rattle.hirgrep_main.specs.Tasks.{IsInputReported, count_of, report_in, whole_report_in}
 use Rattle.hirgrep_main.specs.Texts.{printed_name}
 use Rattle.hirgrep_main.proofs.input_report.report_one.Goals as goal

@@ -1,5 +1,5 @@
 use Rattle.std.proofs.Common.{ap}
-use Rattle.grep_core.specs.Searchers.{found_by}
+use Rattle.line_search.specs.Searchers.{found_by}
 use Rattle.hirgrep_main.specs.Tasks.{count_of, report_in, whole_report_in}
 use Rattle.hirgrep_main.specs.Texts.{printed_name}
 use Rattle.hirgrep_main.proofs.OutcomeLemmas.{continues_as, continues_searched, searched_as}

@@ -1,5 +1,5 @@
 use Rattle.std.proofs.Common.{◌≡◌, map, string_bytes, take}
-use Rattle.grep_core.specs.Meant.{written}
+use Rattle.line_search.specs.Meant.{written}
 use Rattle.hirgrep_main.proofs.searching.texts_of.Given as goal
 
 abbrev pub invariant-loop-pattern : goal.invariant-loop-pattern

@@ -1,8 +1,0 @@
-use Rattle.std.proofs.Common.{ap, sym, subst}
-use Rattle.grep_core.specs.declared.patterns.PatternOptions.{PatternOptions}
-use Rattle.grep_core.proofs.block_search.wordless_candidates.Goals as goal
-
-pub returns : goal.returns
-returns c =
-    c.in-Ok-new.ensures.candidates c.args.patterns.now.0 c.args.patterns.now.1
-    (ap (λ (h : PatternOptions). h.crlf) (sym c.how-crlf.ensures)) c.in-Ok.ensures.tree c.in-Ok-wordless_regex.ensures.built

@@ -1,9 +1,0 @@
-use Rattle.std.proofs.Common.{◌∙◌, ℕ, List, subst}
-use Rattle.grep_core.specs.Candidates.{IsNextLine}
-use Rattle.grep_core.specs.declared.patterns.PatternOptions.{PatternOptions}
-use Rattle.grep_core.proofs.candidate_finder.CandidateFinder.reach.Goals as goal
-
-pub returns-clause-next : goal.returns-clause-next
-returns-clause-next c =
-    subst (λ (v : PatternOptions × List (List ℕ)). IsNextLine v.0 v.1 c.args.block.now c.args.at c.in-Ok.reached)
-    (c.self.invariant.0 ∙ c.self.view_is) c.in-Ok.ensures.next

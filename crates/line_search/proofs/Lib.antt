@@ -1,0 +1,22 @@
+mod AppendLemmas
+mod BoundedLemmas
+mod BoundedTreeLemmas
+pub mod CandidateLemmas
+mod EdgeLemmas
+mod FallbackLemmas
+mod FeedLemmas
+pub mod FeedPlaceLemmas
+pub mod ForCallers
+mod FoundSpanLemmas
+mod JoinedLemmas
+pub mod LineCutLemmas
+mod LiteralLemmas
+mod LoopLemmas
+mod NumberedLemmas
+mod OwnLemmas
+mod PartLemmas
+mod RegexLemmas
+mod ReplaceLemmas
+pub mod SpanLemmas
+mod ToldLemmas
+mod WholePatternLemmas

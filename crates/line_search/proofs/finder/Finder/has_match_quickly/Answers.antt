@@ -1,0 +1,26 @@
+use Rattle.std.proofs.Common.{sym, subst}
+use Rattle.regex_pair.specs.Pairs.{Pair}
+use Rattle.line_search.specs.Searchers.{IsMatchReported, Sought}
+use Rattle.line_search.proofs.OwnLemmas.{IsOwn}
+use Rattle.line_search.proofs.finder.Finder.has_match_quickly.Goals as goal
+
+pub invariant_of-self : goal.invariant_of-self
+invariant_of-self c = (
+  subst (λ (p : Pair). IsOwn c.self.inside.patterns.now.0 c.self.inside.patterns.now.1 c.self.inside.with_matches p)
+      (sym c.has_match.ensures.same) c.self.invariant.0,
+  c.self.invariant.1,
+  c.self.invariant.2,
+)
+
+pub invariant_of-self-2 : goal.invariant_of-self-2
+invariant_of-self-2 c = (
+  subst (λ (p : Pair). IsOwn c.self.inside.patterns.now.0 c.self.inside.patterns.now.1 c.self.inside.with_matches p)
+      (sym c.has_match.ensures.same) c.self.invariant.0,
+  c.self.invariant.1,
+  c.self.invariant.2,
+)
+
+pub returns-clause-reported : goal.returns-clause-reported
+returns-clause-reported c =
+    subst (λ (s : Sought). IsMatchReported s.how s.texts c.args.line.now c.in-Ok.reported) c.self.view_is
+    (c.in-Ok.ensures.reported c.self.inside.patterns.now.0 c.self.inside.patterns.now.1 c.self.invariant.0.0)

@@ -1,0 +1,29 @@
+-- The one tree of several patterns, which may count only as a whole line or as whole words.
+use Rattle.std.specs.Prelude.{◌≡◌, ℕ, List, [], ◌∷◌, if◌then◌else◌}
+use Rattle.look_core.specs.declared.look.Look.TheVariants.{Start, End, WordStartUnicode, WordStartHalfUnicode}
+use Rattle.look_core.specs.declared.look.Look.TheVariants.{WordEndUnicode, WordEndHalfUnicode}
+use Rattle.hir_core.specs.Tree.{Tree, look, concat, alternation}
+use Rattle.pattern_search.specs.Texts.{AllMean}
+use Rattle.line_search.specs.Joined.{joined}
+use Rattle.line_search.specs.Meant.{line_config}
+use Rattle.line_search.specs.declared.patterns.PatternOptions.{PatternOptions}
+
+-- The trees of `word_start` and `word_end`.
+abbrev pub word_start_tree : Tree
+word_start_tree = alternation (look WordStartUnicode ∷ look WordStartHalfUnicode ∷ [])
+
+abbrev pub word_end_tree : Tree
+word_end_tree = alternation (look WordEndUnicode ∷ look WordEndHalfUnicode ∷ [])
+
+-- The tree of parsed patterns, with what `bounded` puts around each of them.
+abbrev pub bounded_tree : PatternOptions → Tree → Tree
+bounded_tree how x =
+    if how.lines then concat (look Start ∷ x ∷ look End ∷ [])
+    else if how.words then concat (word_start_tree ∷ x ∷ word_end_tree ∷ [])
+    else x
+
+-- The one tree of patterns: each pattern is parsed into a tree by itself, these are joined, and the result is bounded.
+pub record IsTreeOf (how : PatternOptions) (texts : List (List ℕ)) (x : Tree) : Type 0 where
+  pub parsed : List Tree
+  pub mean : AllMean (line_config how) texts parsed
+  pub is_bounded : x ≡ bounded_tree how (joined parsed)

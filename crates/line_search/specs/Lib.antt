@@ -1,0 +1,15 @@
+pub mod Bounded
+pub mod BoundedTrees
+pub mod Candidates
+pub mod Edges
+pub mod Fallbacks
+pub mod FoundSpans
+pub mod Groups
+pub mod Joined
+pub mod LineMatchers
+pub mod Lines
+pub mod LiteralLines
+pub mod Meant
+pub mod Patterns
+pub mod Replacing
+pub mod Searchers

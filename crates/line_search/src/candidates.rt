@@ -1,0 +1,344 @@
+//! The lines of a block that may have a match.
+ghost use Rattle.std.specs.Prelude.{◌≡◌, ◌==◌, ◌&&◌, ◌||◌, ◌≤◌, ◌<◌, ◌-◌, ◌∷◌, ℕ, List, [], length, map, option_map, slice_get};
+ghost use Rattle.std.specs.Prelude.{is_some, not, slice_range};
+ghost use Rattle.std.specs.Prelude.{true, Option, Some, IfErr, IfOk, IfSome, false};
+ghost use Rattle.hir_core.specs.Tree.{Tree};
+ghost use Rattle.line_trees.specs.LineTrees.{line_tree, has_crlf, HasNoFeedFrom};
+ghost use Rattle.hirscan.specs.Built.{IsBuilt, FailsBuild};
+ghost use Rattle.ucd_perl.specs.Perl.{is_word_char};
+ghost use Rattle.earliest_ends.specs.Earliest.{IsEarliestError};
+ghost use Rattle.line_search.specs.BoundedTrees.{IsTreeOf};
+ghost use Rattle.line_search.specs.declared.patterns.PatternOptions.{PatternOptions};
+ghost use Rattle.line_search.specs.Candidates.{IsCandidatesOf, IsLineStart, HaveNoMatch, HasMatchAt, IsStop, IsStopIfAny};
+ghost use Rattle.line_search.specs.Candidates.{IsEnd, searched_tree, StopsInLine};
+ghost use Rattle.line_search.specs.Searchers.{line_settings, sized_settings};
+ghost use Rattle.line_search.specs.declared.fault.Fault.TheVariants.{NoMemory};
+
+use crate::edges::asks_for_edge;
+use crate::fault::Fault;
+use crate::feeds::skip_back;
+use crate::regexes::{regex_of, resized};
+use crate::searcher::{Searcher, see_bytes};
+use earliest_ends::find_earliest_end;
+use hir_core::Hir;
+use lazy_dfa::BuildError;
+use line_trees::{has_crlf, line_tree, reads_feed, wordless_tree};
+use regex_pair::regex::{Cache, Regex};
+use search_types::{MatchError, MatchErrorKind};
+use std::alloc::{AllocError, Global};
+use std::marker::Model;
+use std::sync::Arc;
+
+/// A regex that searches blocks of lines for patterns, and the caches of its searches.
+///
+/// If a line has a match, then each block that contains the line has one there. So the lines before the earliest end of a match in the
+/// block have none. A match in the block need not be a match in a line, since it may extend over the ends of lines. It is one if the
+/// tree consumes no line feed and no carriage return belongs to the end of a line. If a carriage return does belong to it, a match in the
+/// block may consume that byte, so each such line is searched by itself.
+///
+/// The regex is built from the tree of the patterns, or from that tree without its looks at words by characters. With such looks a search
+/// gives up at each byte above ASCII. Without them it doesn't, but a line with a match need have none of the patterns. If the tree is its
+/// own line tree, the regex is shared with the search of lines.
+#[derive(Drop)]
+pub(crate) struct Candidates {
+    regex: Arc<Regex>,
+    cache: Cache,
+    /// Whether the tree of the patterns is searched for as it is.
+    exact: bool,
+    /// Whether the tree consumes no line feed.
+    feedless: bool,
+    /// Whether a carriage return right before a line feed belongs to the end of a line.
+    crlf: bool,
+}
+
+/// Where the search of a block stops.
+#[derive(Clone, Copy)]
+struct Stop {
+    place: usize,
+    /// Whether a match ends there. Otherwise the search gives up there.
+    is_end: bool,
+}
+
+/// The result of searching a block.
+#[derive(Clone, Copy)]
+pub struct Reached {
+    /// The start of the next line that may have a match, or the end of the block.
+    pub start: usize,
+    /// Whether that line is known to have a match.
+    pub has: bool,
+    /// How many bytes the search consumed.
+    pub passed: usize,
+    /// Whether the search gave up in that line.
+    pub gave_up: bool,
+}
+
+impl Reached {
+    /// The line that starts at this offset, of which nothing is known.
+    pub(crate) fn here(start: usize) -> Reached
+        ensures { result ≡ record { start = start; has = false; passed = 0; gave_up = false } }
+    {
+        Reached {
+            start,
+            has: false,
+            passed: 0,
+            gave_up: false,
+        }
+    }
+}
+
+impl Model for Candidates {
+    ghost use Rattle.regex_pair.specs.Pairs.{AreCachesOf, PairCache};
+    ghost use Rattle.line_search.specs.Candidates.{BlockRegex};
+
+    ghost Value = { BlockRegex × PairCache };
+
+    ghost view = { λ s. (record { regex = s.regex.value; exact = s.exact; feedless = s.feedless; crlf = s.crlf }, s.cache) };
+
+    ghost invariant = { λ s. AreCachesOf s.regex.value s.cache };
+}
+
+/// The offset right after the last line feed between both offsets, or the first offset if there is none.
+pub fn line_start(block: &[u8], at: usize, place: usize) -> usize
+    requires { at ≤ length block.now }
+    ensures from { at ≤ result }
+    ensures within { result ≤ length block.now }
+    ensures before { at < result → result ≤ place }
+    ensures starts { at < result → slice_get block.now (result - 1) ≡ Some 10 }
+    ensures last { HasNoFeedFrom block.now result place }
+{
+    let mut start = skip_back(block, at, place.min(block.len()));
+    while at < start {
+        if block[start - 1] == b'\n' {
+            return start;
+        }
+        start -= 1;
+    }
+    at
+}
+
+/// The offset at which a failed search stopped.
+fn refused_at(at: usize, error: &MatchError) -> Result<usize, Fault>
+    ensures reported { (xs : List Tree) (block : List ℕ) → IsEarliestError is_word_char xs line_settings block at error.now →
+        IfOk result (λ place. IsStop xs block at place) }
+    ensures refused { IfErr result (λ e. e ≡ NoMemory) }
+{
+    match error.kind() {
+        MatchErrorKind::Quit { offset, .. } => Ok(*offset),
+        MatchErrorKind::NoMemory => Err(Fault::NoMemory),
+        _ => Ok(at),
+    }
+}
+
+/// A search that found the end of a match stops there.
+fn stop_at(end: Option<usize>) -> Option<Stop>
+    ensures { option_map (λ stop. stop.place) result ≡ end }
+{
+    match end {
+        Some(place) => Some(Stop {
+            place,
+            is_end: true,
+        }),
+        None => None,
+    }
+}
+
+/// The regex of the line tree of this tree.
+fn line_regex(alloc: Global, tree: &Hir, crlf: bool) -> Result<Arc<Regex>, BuildError>
+    ensures built { IfOk result (λ re. IsBuilt (line_tree crlf tree.now ∷ []) line_settings re.value) }
+    ensures refused { IfErr result (λ e. FailsBuild (line_tree crlf tree.now ∷ []) line_settings e) }
+{
+    let Ok(line) = line_tree(alloc, tree, crlf) else {
+        return Err(BuildError::NoMemory);
+    };
+    match regex_of(alloc, &line) {
+        Ok(regex) => Ok(regex),
+        Err(e) => Err(e),
+    }
+}
+
+/// The regex that searches blocks for this tree. If it is its own line tree, this is the regex of the searcher of lines.
+pub(crate) fn exact_regex(
+    alloc: Global,
+    tree: &Hir,
+    lines: &Searcher,
+    crlf: bool,
+) -> Result<Arc<Regex>, BuildError>
+    requires { IsBuilt (tree.now ∷ []) line_settings lines.now.0 }
+    ensures built { IfOk result (λ re. IsBuilt (line_tree crlf (searched_tree true tree.now) ∷ []) line_settings re.value) }
+    ensures refused { IfErr result (λ e. FailsBuild (line_tree crlf (searched_tree true tree.now) ∷ []) line_settings e) }
+{
+    if asks_for_edge(tree) {
+        return match line_regex(alloc, tree, crlf) {
+            Ok(regex) => Ok(regex),
+            Err(e) => Err(e),
+        };
+    }
+    match lines.regex() {
+        Ok(regex) => Ok(regex),
+        Err(_) => Err(BuildError::NoMemory),
+    }
+}
+
+/// The regex that searches blocks for this tree without its looks at words by characters.
+pub(crate) fn wordless_regex(
+    alloc: Global,
+    tree: &Hir,
+    crlf: bool,
+) -> Result<Arc<Regex>, BuildError>
+    ensures built { IfOk result (λ re. IsBuilt (line_tree crlf (searched_tree false tree.now) ∷ []) line_settings re.value) }
+    ensures refused { IfErr result (λ e. FailsBuild (line_tree crlf (searched_tree false tree.now) ∷ []) line_settings e) }
+{
+    let Ok(wordless) = wordless_tree(alloc, tree) else {
+        return Err(BuildError::NoMemory);
+    };
+    match line_regex(alloc, &wordless, crlf) {
+        Ok(regex) => Ok(regex),
+        Err(e) => Err(e),
+    }
+}
+
+impl Candidates {
+    /// A search of blocks of lines for the tree of the patterns, or for that tree without its looks at words by characters, with the regex
+    /// that is built for this. It returns none if the tree has a look-around assertion about carriage returns, since the laws about blocks
+    /// don't cover such a tree.
+    pub(crate) fn new(
+        alloc: Global,
+        regex: Arc<Regex>,
+        tree: &Hir,
+        exact: bool,
+        crlf: bool,
+    ) -> Result<Option<Candidates>, AllocError>
+        ensures some { IfOk result (λ o. is_some o ≡ not (has_crlf tree.now)) }
+        ensures candidates { (how : PatternOptions) (texts : List (List ℕ)) → how.crlf ≡ crlf → IsTreeOf how texts tree.now →
+            IsBuilt (line_tree crlf (searched_tree exact tree.now) ∷ []) line_settings regex.value →
+            IfOk result (λ o. IfSome o (λ c. IsCandidatesOf how texts c.0)) }
+    {
+        if has_crlf(tree) {
+            return Ok(None);
+        }
+        let feedless = !reads_feed(tree);
+        let cache = Cache::new(alloc, &regex)?;
+        Ok(Some(Candidates {
+            regex,
+            cache,
+            exact,
+            feedless,
+            crlf,
+        }))
+    }
+
+    /// A search by copies of the automata with caches of this capacity in bytes, if memory suffices. Nothing is compiled.
+    pub(crate) fn resized(&self, alloc: Global, capacity: usize) -> Option<Candidates>
+        ensures { (how : PatternOptions) (texts : List (List ℕ)) → IsCandidatesOf how texts self.now.0 →
+            IfSome result (λ c. IsCandidatesOf how texts c.0) }
+    {
+        let Some(regex) = resized(alloc, &self.regex, capacity) else {
+            return None;
+        };
+        match Cache::new(alloc, &regex) {
+            Ok(cache) => Some(Candidates {
+                regex,
+                cache,
+                exact: self.exact,
+                feedless: self.feedless,
+                crlf: self.crlf,
+            }),
+            Err(_) => None,
+        }
+    }
+
+    /// How often the caches were cleared. The greatest number stands for any number above it.
+    pub(crate) fn clear_count(&self) -> usize {
+        let forward = self.cache.forward().clear_count();
+        let reverse = self.cache.reverse().clear_count();
+        forward.saturating_add(reverse)
+    }
+
+    /// The bytes that both caches are estimated to need.
+    pub(crate) fn memory_usage(&self) -> usize {
+        self.cache.memory_usage()
+    }
+
+    /// Whether the line that starts at `start` is known to have a match, if the search started at `at`. It has one if a match ends in it
+    /// that can't have begun before it. That is so if the search started there. It is also so if the tree consumes no line feed, since a
+    /// match that began earlier would have consumed the one before the line. If a carriage return belongs to the end of a line, no line is
+    /// known to have a match. None is if looks at words were left out either.
+    fn is_known(&self, stop: Stop, start: usize, at: usize) -> bool
+        ensures { result ≡ (not self.now.0.crlf && (self.now.0.exact && (stop.is_end && (self.now.0.feedless || start == at)))) }
+    {
+        !self.crlf && self.exact && stop.is_end && (self.feedless || start == at)
+    }
+
+    /// Where a search stops that starts at this offset. It stops at the least end of the matches in the block that start at this offset or
+    /// later. Or it stops at a byte at which it gives up, before which no such match ends. If there is no such match, it stops nowhere.
+    fn stop_from(&mut self, block: &[u8], at: usize) -> Result<Option<Stop>, Fault>
+        requires { at ≤ length block.now }
+        ensures same { self.new.0 ≡ self.old.0 }
+        ensures reported { (xs : List Tree) (capacity : Option ℕ) → IsBuilt xs (sized_settings capacity) self.old.0.regex →
+            IfOk result (λ o. IsStopIfAny xs block.now at (option_map (λ stop. stop.place) o)) }
+        ensures ends { (xs : List Tree) (capacity : Option ℕ) → IsBuilt xs (sized_settings capacity) self.old.0.regex →
+            IfOk result (λ o. IfSome o (λ stop. stop.is_end ≡ true → IsEnd xs block.now at stop.place)) }
+        ensures refused { IfErr result (λ e. e ≡ NoMemory) }
+    {
+        let error = match find_earliest_end(&self.regex, &mut self.cache, block, at) {
+            Ok(end) => return Ok(stop_at(end)),
+            Err(error) => error,
+        };
+        let place = match refused_at(at, &error) {
+            Ok(place) => place,
+            Err(e) => return Err(e),
+        };
+        Ok(Some(Stop {
+            place,
+            is_end: false,
+        }))
+    }
+
+    /// Returns the start of the next line that may have a match, or the end of the block if none may. The offset `at` is the start of a
+    /// line. None of the lines from `at` up to the returned offset has a match.
+    ///
+    /// Unless the end of the block is returned, the search stopped in the line that starts at the returned offset, or at the line feed
+    /// before it. It stopped at the least end of the matches in the block from `at` on. Or it stopped at a byte at which it gives up, such
+    /// as a byte that isn't ASCII if words are asked for.
+    ///
+    /// If that match ends in the line that starts at `at`, or if the tree consumes no line feed, it is a match of the line. If a carriage
+    /// return belongs to the end of a line, it need not be one.
+    pub(crate) fn next_line(&mut self, block: &[u8], at: usize) -> Result<Reached, Fault>
+        requires within { at ≤ length block.now }
+        requires starts { IsLineStart block.now at }
+        ensures same { self.new.0 ≡ self.old.0 }
+        ensures from { IfOk result (λ r. at ≤ r.start) }
+        ensures within { IfOk result (λ r. r.start ≤ length block.now) }
+        ensures starts { IfOk result (λ r. r.start < length block.now → IsLineStart block.now r.start) }
+        ensures passed { (how : PatternOptions) (texts : List (List ℕ)) → IsCandidatesOf how texts self.old.0 →
+            IfOk result (λ r. HaveNoMatch how texts (slice_range block.now at r.start)) }
+        ensures has { (how : PatternOptions) (texts : List (List ℕ)) → IsCandidatesOf how texts self.old.0 →
+            IfOk result (λ r. r.has ≡ true → HasMatchAt how texts block.now r.start) }
+        ensures stops { (xs : List Tree) (capacity : Option ℕ) → IsBuilt xs (sized_settings capacity) self.old.0.regex →
+            IfOk result (λ r. r.start < length block.now → StopsInLine xs block.now at r.start) }
+        ensures refused { IfErr result (λ e. e ≡ NoMemory) }
+    {
+        see_bytes(block);
+        let stop = match self.stop_from(block, at) {
+            Ok(stop) => stop,
+            Err(e) => return Err(e),
+        };
+        match stop {
+            None => Ok(Reached {
+                start: block.len(),
+                has: false,
+                passed: block.len() - at,
+                gave_up: false,
+            }),
+            Some(stop) => {
+                let start = line_start(block, at, stop.place);
+                Ok(Reached {
+                    start,
+                    has: self.is_known(stop, start, at),
+                    passed: stop.place.saturating_sub(at),
+                    gave_up: !stop.is_end,
+                })
+            }
+        }
+    }
+}

@@ -1,0 +1,407 @@
+//! Finds patterns by automata. Where these give up at a quit byte, a program of the toolchain for the same patterns answers.
+ghost use Rattle.std.specs.Prelude.{◌≡◌, IfErr, IfOk, map, option_map, true, ◌≤◌, length};
+ghost use Rattle.line_search.specs.Candidates.{IsLineStart, IsNextLine};
+ghost use Rattle.line_search.specs.FoundSpans.{IsNextSpan, IsFoundSpan};
+ghost use Rattle.line_search.specs.LineMatchers.{span_pair};
+ghost use Rattle.line_search.specs.Searchers.{AreReplaced, IsMatchReported, AreReported, IsSearcherError, SearchesFor};
+
+use crate::candidates::Reached;
+use crate::fallback::ends_at;
+use crate::fault::Fault;
+use crate::line_finder::LineFinder;
+use crate::line_patterns::LinePatterns;
+use crate::replacing::Replaced;
+use crate::searcher::{Searcher, SearcherError};
+use crate::sizes::Size;
+use crate::slow_search::SlowSearch;
+use search_types::{MatchError, MatchErrorKind, Span};
+use std::alloc::Global;
+use std::marker::Model;
+use std::mem;
+
+/// Finds patterns in lines.
+///
+/// Automata search the lines. In some lines they give up at a quit byte, for example if `\b` is tried next to a byte that isn't ASCII. Such
+/// lines are searched by a program of the toolchain for the same patterns ([`LinePatterns`]).
+///
+/// Blocks of lines are searched as the patterns stand, and, after that gave up at a quit byte, for some time without looks at words. That
+/// passes fewer lines, each of which is then searched by itself.
+///
+/// If the caches of the automata are cleared too soon, they are enlarged, up to 256 MiB each. This happens for example if prose is searched
+/// for a thousand patterns that aren't literals.
+#[derive(Drop)]
+pub struct Finder<'t> {
+    searcher: Searcher,
+    patterns: &'t LinePatterns<'t>,
+    with_matches: bool,
+    slow: SlowSearch<'t>,
+    candidates: LineFinder<'t>,
+    /// The size of the caches of the search of lines.
+    line_size: Size,
+    /// How often caches of the search of lines were cleared that have been replaced by larger ones.
+    past_clears: usize,
+    /// Room for the bytes of an input, which is kept for the next one.
+    room: Vec<u8>,
+    /// How many reads there were into it.
+    reads: u64,
+}
+
+impl<'t> Model for Finder<'t> {
+    ghost use Rattle.std.specs.Prelude.{◌≡◌, true};
+    ghost use Rattle.hir_core.specs.Facts.{LoopsRead};
+    ghost use Rattle.line_search.specs.Searchers.{IsSearcherOf, Sought};
+
+    ghost Value = { Sought };
+
+    ghost view = { λ f. record { how = f.patterns.now.0; texts = f.patterns.now.1; spans = f.with_matches } };
+
+    ghost invariant = { λ f.
+        ((it : IsSearcherOf f.patterns.now.0 f.patterns.now.1 f.searcher.0) × (f.with_matches ≡ true → LoopsRead it.tree))
+        × (f.slow ≡ f.patterns.now)
+        × (f.candidates ≡ f.patterns.now) };
+}
+
+/// Whether a search failed because it ran out of memory.
+fn lacks_memory(error: &MatchError) -> bool {
+    match error.kind() {
+        MatchErrorKind::NoMemory => true,
+        _ => false,
+    }
+}
+
+/// Where a match ends, or the end of the line if there is none.
+fn end_of(found: Option<Span>, end: usize) -> usize {
+    match found {
+        Some(span) => span.end,
+        None => end,
+    }
+}
+
+impl<'t> Finder<'t> {
+    /// Builds a finder for patterns. It may be asked for matches, or only for whether there is one. It searches any bytes, whether they are
+    /// UTF-8 or not. Each pattern is parsed by itself, and the result is then bounded as `how` asks. So nothing in a pattern can affect
+    /// what is put around it.
+    ///
+    /// It returns an error if a pattern can't be parsed, with the number of the pattern and the offset in it. It also returns an error if
+    /// matches are asked for and a pattern has an unbounded repetition whose body can match the empty string.
+    pub fn new(
+        alloc: Global,
+        patterns: &'t LinePatterns<'t>,
+        with_matches: bool,
+    ) -> Result<Finder<'t>, SearcherError>
+        ensures sought { IfOk result (λ f. f ≡ record { how = patterns.now.0; texts = patterns.now.1; spans = with_matches }) }
+        ensures searches { IfOk result (λ f. SearchesFor f with_matches) }
+        ensures refused { IfErr result (IsSearcherError patterns.now.0 patterns.now.1 with_matches) }
+    {
+        let tree = match patterns.tree(with_matches) {
+            Ok(tree) => tree,
+            Err(e) => return Err(e),
+        };
+        let searcher = match Searcher::new(alloc, tree) {
+            Ok(searcher) => searcher,
+            Err(e) => return Err(SearcherError::Build(e)),
+        };
+        let candidates = LineFinder::new(alloc, patterns, tree, &searcher);
+        Ok(Finder {
+            searcher,
+            patterns,
+            with_matches,
+            slow: SlowSearch::new(patterns),
+            candidates,
+            line_size: Size::first(),
+            past_clears: 0,
+            room: Vec::new(alloc),
+            reads: 0,
+        })
+    }
+
+    /// Takes the room for the bytes of an input. Returns it, and how many reads there were into it.
+    pub fn take_room(&mut self, alloc: Global) -> (Vec<u8>, u64)
+        ensures { self.new ≡ self.old }
+    {
+        let room = mem::replace(&mut self.room, Vec::new(alloc));
+        (room, self.reads)
+    }
+
+    /// Keeps the room for the next input, and how many reads there were into it.
+    pub fn keep_room(&mut self, room: Vec<u8>, reads: u64)
+        ensures { self.new ≡ self.old }
+    {
+        self.room = room;
+        self.reads = reads;
+    }
+
+    /// Whether a carriage return right before a line feed belongs to the end of a line.
+    pub fn crlf(&self) -> bool
+        ensures { result ≡ self.now.how.crlf }
+    {
+        self.patterns.how().crlf
+    }
+
+    /// Enlarges the caches of the search of lines, if they were cleared too soon and memory suffices.
+    fn grow_searcher(&mut self, alloc: Global)
+        ensures { self.new ≡ self.old }
+    {
+        if let Some(size) = self.line_size.take_larger() {
+            self.enlarge_searcher(alloc, size);
+        }
+    }
+
+    /// Enlarges the caches of the search of lines to this size, if memory suffices.
+    #[inline(never)]
+    fn enlarge_searcher(&mut self, alloc: Global, size: Size)
+        ensures { self.new ≡ self.old }
+    {
+        let clears = self.searcher.clear_count();
+        if let Some(larger) = self.searcher.resized(alloc, size.capacity) {
+            self.searcher = larger;
+            self.line_size = size;
+            self.past_clears = self.past_clears.saturating_add(clears);
+        }
+    }
+
+    /// Records that this many bytes of lines were searched.
+    fn note_lines(&mut self, bytes: usize)
+        ensures { self.new ≡ self.old }
+    {
+        let clears = self.searcher.clear_count();
+        self.line_size.note(bytes, clears);
+    }
+
+    /// Returns the start of the next line of a block that may have a match, or the end of the block if none may. It also returns whether
+    /// that line is known to have a match. The offset `at` is the start of a line. No line from there up to the returned offset has a
+    /// match.
+    pub fn next_line(&mut self, alloc: Global, block: &[u8], at: usize) -> Result<Reached, Fault>
+        requires within { at ≤ length block.now }
+        requires starts { IsLineStart block.now at }
+        ensures same { self.new ≡ self.old }
+        ensures next { IfOk result (IsNextLine self.old.how self.old.texts block.now at) }
+    {
+        let reached = match self.candidates.next_line(alloc, block, at) {
+            Ok(reached) => reached,
+            Err(e) => return Err(e),
+        };
+        Ok(reached)
+    }
+
+    /// How often the caches of the automata were cleared. The greatest number stands for any number above it.
+    pub fn clear_count(&self) -> usize {
+        let clears = self.past_clears.saturating_add(self.searcher.clear_count());
+        clears.saturating_add(self.candidates.clear_count())
+    }
+
+    /// The bytes that the caches are estimated to need.
+    pub fn memory_usage(&self) -> usize {
+        let usage = self.searcher.memory_usage();
+        usage.saturating_add(self.candidates.memory_usage())
+    }
+
+    /// The number of lines in which the automata gave up, so that the toolchain's program reported whether there is a match.
+    pub fn slow_lines(&self) -> u64 {
+        self.slow.lines()
+    }
+
+    /// Whether the line has a match, by the program.
+    fn has_match_slowly(&mut self, alloc: Global, line: &[u8]) -> Result<bool, Fault>
+        ensures same { self.new ≡ self.old }
+        ensures reported { IfOk result (λ reported. IsMatchReported self.old.how self.old.texts line.now reported) }
+    {
+        let has = match self.slow.has_match(alloc, line) {
+            Ok(has) => has,
+            Err(e) => return Err(e),
+        };
+        Ok(has)
+    }
+
+    /// The matches of the line, by the program.
+    fn matches_slowly(&mut self, alloc: Global, line: &[u8]) -> Result<Vec<Span>, Fault>
+        ensures same { self.new ≡ self.old }
+        ensures reported { IfOk result (λ found. AreReported self.old.how self.old.texts line.now (map span_pair found.items)) }
+    {
+        let found = match self.slow.matches(alloc, line) {
+            Ok(found) => found,
+            Err(e) => return Err(e),
+        };
+        Ok(found)
+    }
+
+    /// Whether the line has a match, by the automata.
+    fn has_match_quickly(&mut self, line: &[u8]) -> Result<bool, MatchError>
+        ensures same { self.new ≡ self.old }
+        ensures reported { IfOk result (λ reported. IsMatchReported self.old.how self.old.texts line.now reported) }
+    {
+        let reported = match self.searcher.has_match(line) {
+            Ok(reported) => reported,
+            Err(e) => return Err(e),
+        };
+        self.note_lines(line.len());
+        Ok(reported)
+    }
+
+    /// The matches of the line, by the automata.
+    fn matches_quickly(&mut self, alloc: Global, line: &[u8]) -> Result<Vec<Span>, MatchError>
+        ensures same { self.new ≡ self.old }
+        ensures reported { self.old.spans ≡ true →
+            IfOk result (λ found. AreReported self.old.how self.old.texts line.now (map span_pair found.items)) }
+    {
+        let found = match self.searcher.matches(alloc, line) {
+            Ok(found) => found,
+            Err(e) => return Err(e),
+        };
+        self.note_lines(line.len());
+        Ok(found)
+    }
+
+    /// Whether the line has a match of some pattern.
+    pub fn has_match(&mut self, alloc: Global, line: &[u8]) -> Result<bool, Fault>
+        ensures same { self.new ≡ self.old }
+        ensures reported { IfOk result (λ reported. IsMatchReported self.old.how self.old.texts line.now reported) }
+    {
+        self.grow_searcher(alloc);
+        let error = match self.has_match_quickly(line) {
+            Ok(has) => return Ok(has),
+            Err(error) => error,
+        };
+        if lacks_memory(&error) {
+            return Err(Fault::NoMemory);
+        }
+        match self.has_match_slowly(alloc, line) {
+            Ok(has) => Ok(has),
+            Err(e) => Err(e),
+        }
+    }
+
+    /// The matches of the line, from left to right.
+    pub fn matches(&mut self, alloc: Global, line: &[u8]) -> Result<Vec<Span>, Fault>
+        ensures same { self.new ≡ self.old }
+        ensures reported { self.old.spans ≡ true →
+            IfOk result (λ found. AreReported self.old.how self.old.texts line.now (map span_pair found.items)) }
+    {
+        self.grow_searcher(alloc);
+        let error = match self.matches_quickly(alloc, line) {
+            Ok(found) => return Ok(found),
+            Err(error) => error,
+        };
+        if lacks_memory(&error) {
+            return Err(Fault::NoMemory);
+        }
+        match self.matches_slowly(alloc, line) {
+            Ok(found) => Ok(found),
+            Err(e) => Err(e),
+        }
+    }
+
+    /// The line with its matches replaced by what a template writes for them, for patterns that were taken with their groups.
+    pub fn replaced(
+        &mut self,
+        alloc: Global,
+        line: &[u8],
+        template: &[u8],
+    ) -> Result<Replaced, Fault>
+        ensures same { self.new ≡ self.old }
+        ensures reported { IfOk result (λ r.
+            AreReplaced self.old.how self.old.texts template.now line.now r.bytes.items (map span_pair r.spans.items)) }
+    {
+        let replaced = match self.slow.replaced(alloc, line, template) {
+            Ok(replaced) => replaced,
+            Err(e) => return Err(e),
+        };
+        Ok(replaced)
+    }
+
+    /// Whether it may be asked for matches.
+    pub fn with_matches(&self) -> bool
+        ensures { result ≡ self.now.spans }
+    {
+        self.with_matches
+    }
+
+    /// The span of the match from an offset of the line on, by the program.
+    fn find_slowly(
+        &mut self,
+        alloc: Global,
+        line: &[u8],
+        start: usize,
+    ) -> Result<Option<Span>, Fault>
+        requires { start ≤ length line.now }
+        ensures same { self.new ≡ self.old }
+        ensures reported { IfOk result (λ found. IsFoundSpan self.old.how self.old.texts line.now start (option_map span_pair found)) }
+    {
+        let found = match self.slow.find_from(alloc, line, start) {
+            Ok(found) => found,
+            Err(e) => return Err(e),
+        };
+        Ok(found)
+    }
+
+    /// The span of the match from an offset of the line on, by the automata.
+    fn find_quickly(&mut self, line: &[u8], start: usize) -> Result<Option<Span>, MatchError>
+        requires { start ≤ length line.now }
+        ensures same { self.new ≡ self.old }
+        ensures reported { self.old.spans ≡ true →
+            IfOk result (λ found. IsFoundSpan self.old.how self.old.texts line.now start (option_map span_pair found)) }
+    {
+        let found = match self.searcher.find_from(line, start) {
+            Ok(found) => found,
+            Err(e) => return Err(e),
+        };
+        self.note_lines(end_of(found, line.len()).saturating_sub(start));
+        Ok(found)
+    }
+
+    /// The span of the leftmost match that starts at an offset of the line or after it.
+    pub fn find_from(
+        &mut self,
+        alloc: Global,
+        line: &[u8],
+        start: usize,
+    ) -> Result<Option<Span>, Fault>
+        requires { start ≤ length line.now }
+        ensures same { self.new ≡ self.old }
+        ensures reported { self.old.spans ≡ true →
+            IfOk result (λ found. IsFoundSpan self.old.how self.old.texts line.now start (option_map span_pair found)) }
+    {
+        self.grow_searcher(alloc);
+        let error = match self.find_quickly(line, start) {
+            Ok(found) => return Ok(found),
+            Err(error) => error,
+        };
+        if lacks_memory(&error) {
+            return Err(Fault::NoMemory);
+        }
+        match self.find_slowly(alloc, line, start) {
+            Ok(found) => Ok(found),
+            Err(e) => Err(e),
+        }
+    }
+
+    /// The next span of the line after one that ended at this offset. An empty span there is skipped.
+    pub fn find_next(
+        &mut self,
+        alloc: Global,
+        line: &[u8],
+        end: usize,
+    ) -> Result<Option<Span>, Fault>
+        ensures same { self.new ≡ self.old }
+        ensures reported { self.old.spans ≡ true →
+            IfOk result (λ found. IsNextSpan self.old.how self.old.texts line.now end (option_map span_pair found)) }
+    {
+        if end > line.len() {
+            return Ok(None);
+        }
+        let next = match self.find_from(alloc, line, end) {
+            Ok(next) => next,
+            Err(e) => return Err(e),
+        };
+        if !ends_at(next, end) {
+            return Ok(next);
+        }
+        if end >= line.len() {
+            return Ok(None);
+        }
+        match self.find_from(alloc, line, end + 1) {
+            Ok(next) => Ok(next),
+            Err(e) => Err(e),
+        }
+    }
+}
