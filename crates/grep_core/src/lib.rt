@@ -28,10 +28,14 @@ mod separator_state;
 mod texts;
 
 pub use colors::Colors;
+pub use context_printer::{ContextPrinter, Waiting, first_of};
 pub use heading::{Headed, report_headed};
 pub use line::Line;
 pub use looking::needs_spans;
 pub use output_options::{Context, GroupSeparator, OutputOptions, Print};
-pub use reading::report_input;
+pub use reading::{flush, report_input, write_out};
+pub use reporter::{
+    Reporter, counted_as, may_select, report_end, report_flagged, report_line,
+};
 pub use role::Role;
 pub use separator_state::SeparatorState;

@@ -40,7 +40,7 @@ enum Next {
 }
 
 /// Writes all bytes. On an error, the bytes that were written are a prefix of them.
-pub(crate) fn write_out<W: Write>(writer: &mut W, out: &[u8]) -> Result<(), Fault>
+pub fn write_out<W: Write>(writer: &mut W, out: &[u8]) -> Result<(), Fault>
     ensures ok { OnOk result (Appends (W.contents writer.old) (W.contents writer.new) out.now) }
     ensures part { IfErr result (λ _. (n : ℕ) × Appends (W.contents writer.old) (W.contents writer.new) (take n out.now)) }
 {
@@ -55,7 +55,8 @@ pub(crate) fn write_out<W: Write>(writer: &mut W, out: &[u8]) -> Result<(), Faul
     Ok(())
 }
 
-fn flush<W: Write>(writer: &mut W) -> Result<(), Fault>
+/// Flushes the writer.
+pub fn flush<W: Write>(writer: &mut W) -> Result<(), Fault>
     ensures { Keeps (W.contents writer.old) (W.contents writer.new) }
 {
     match writer.flush() {

@@ -1,5 +1,5 @@
 -- Which lines of a text its matches touch, and the part of a match that is in a line.
-use Rattle.std.specs.Prelude.{ℕ, ◌+◌, ◌-◌, Bool, ◌&&◌, nat_lt, nat_le, List, length, map, nat_max, nat_min, if◌then◌else◌}
+use Rattle.std.specs.Prelude.{ℕ, ◌+◌, ◌-◌, Bool, ◌&&◌, nat_lt, nat_le, List, length, map, max, min, if◌then◌else◌}
 use Rattle.std.specs.List.{filter, list_any}
 use Rattle.line_search.specs.Lines.{TextLine, searched}
 
@@ -19,8 +19,8 @@ counts_at begun start end s = if begun then begins_at start end s else touches_a
 -- The part of a match that is in such a line, as offsets in the line, of which so many bytes are searched.
 abbrev pub part_at : ℕ → ℕ → ℕ → ℕ × ℕ → ℕ × ℕ
 part_at start end size s =
-    let first = nat_min (s.0 - start) (end - start) in
-    (first, nat_max first (nat_min (s.1 - start) size))
+    let first = min (s.0 - start) (end - start) in
+    (first, max first (min (s.1 - start) size))
 
 -- The offset after the bytes of a line.
 abbrev pub line_end : TextLine → ℕ
