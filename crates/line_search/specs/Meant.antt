@@ -12,5 +12,5 @@ written fixed pattern = if fixed then encode_utf8_all (escaped_text (chars patte
 abbrev pub line_config : PatternOptions → Config
 line_config how = record default_config {
   utf8 = false;
-  flags = record (default_config.flags) { case_insensitive = how.ignore_case };
+  flags = record (default_config.flags) { case_insensitive = how.ignore_case; dot_matches_new_line = how.null };
 }

@@ -18,13 +18,18 @@ pub struct PatternOptions {
     pub words: bool,
     /// A carriage return before the line feed belongs to the end of a line.
     pub crlf: bool,
+    /// `.` matches a line feed, too, since zero bytes end lines.
+    pub null: bool,
 }
 
 /// The options under which each pattern is parsed, by itself. Any bytes can match, whether they are UTF-8 or not.
 pub fn config_of(how: &PatternOptions) -> Config
     ensures { result ≡ line_config how.now }
 {
-    Config::new().utf8(false).case_insensitive(how.ignore_case)
+    Config::new()
+        .utf8(false)
+        .case_insensitive(how.ignore_case)
+        .dot_matches_new_line(how.null)
 }
 
 /// The pattern in the syntax that is parsed. It is the pattern itself, or if that is a fixed string, a pattern that matches this string.

@@ -1,1 +1,2 @@
 pub mod LineSpans
+pub mod Records

@@ -1,9 +1,11 @@
 //! What is printed for a text in memory.
 //!
 //! A text is split at any byte: at line feeds, or at zero bytes. `specs/LineSpans.antt` defines its lines, and [`line_at`] returns the one
-//! at an offset.
+//! at an offset. [`report_records`] prints what is asked for of a text whose lines end with a given byte (`specs/Records.antt`).
 #![tactic(auto)]
 
 mod lines;
+mod records;
 
 pub use lines::{LineSpan, line_at};
+pub use records::report_records;
