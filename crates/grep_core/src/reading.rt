@@ -66,7 +66,7 @@ pub fn flush<W: Write>(writer: &mut W) -> Result<(), Fault>
 }
 
 /// Whether nothing is printed for the next lines, whatever they are.
-fn is_task_over(task: Task<'_>, progress: &Progress) -> bool
+pub fn is_task_over(task: Task<'_>, progress: &Progress) -> bool
     ensures { IsTrue result → IsOver task.entry progress.now }
 {
     is_over(task.what, &progress.telling)
@@ -365,7 +365,7 @@ fn write_lines<W: Write>(
 }
 
 /// Writes what is printed after all lines.
-fn write_end<W: Write>(
+pub fn write_end<W: Write>(
     alloc: Global,
     writer: &mut W,
     task: Task<'_>,
@@ -536,7 +536,7 @@ fn finish<W: Write>(
 }
 
 /// How many selected lines are counted after the last line.
-fn count_of(print: Print, progress: &Progress) -> u64
+pub fn count_of(print: Print, progress: &Progress) -> u64
     ensures { (t : TheTask) → (f : LineMatcher) → result ≡ counted_as print (counts_lines t f progress.now []) }
 {
     counted_as(print, progress.telling.count)
