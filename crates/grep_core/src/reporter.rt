@@ -41,7 +41,7 @@ pub(crate) fn shown(name: &[u8], with_name: bool) -> Option<&[u8]>
 }
 
 /// Whether the output consists of lines or of the matches in them.
-pub(crate) fn prints_lines(print: Print) -> bool
+pub fn prints_lines(print: Print) -> bool
     ensures { result ≡ prints_lines print }
 {
     match print {
@@ -69,7 +69,7 @@ fn is_wanted(what: &OutputOptions<'_>, has: bool) -> bool
 }
 
 /// Whether a line is selected, after this many selected ones.
-fn is_selected(what: &OutputOptions<'_>, count: u64, has: bool) -> bool
+pub fn is_selected(what: &OutputOptions<'_>, count: u64, has: bool) -> bool
     ensures { result ≡ ((if what.now.invert then not has else has) && may_select what.now.most count) }
 {
     is_wanted(what, has) && may_select(what, count)
@@ -114,7 +114,7 @@ pub(crate) fn count_more(count: u64, is_selected: bool) -> Result<u64, Fault>
 }
 
 /// Whether matches are counted, and not lines.
-fn counts_matches(print: Print) -> bool
+pub fn counts_matches(print: Print) -> bool
     ensures { result ≡ counts_matches print }
 {
     match print {
