@@ -37,27 +37,12 @@ writes_for how names res line template slots m own t old new appended read is ar
     ∙ written_so line m slots are inside all.1 short (most_groups names) long own template
     ∙ ap (λ (n : Names). written_after n (text_of_group (most_groups names) line m) template 0) is)
 
-pub slots_are : (m : Match) (start end : ℕ) (cells slots : List ℕ) → (start, end) ≡ span_of_match m → cells ≡ group_cells m (length cells) →
-    slots ≡ start ∷ end ∷ map offset_of_cell cells → All (λ cell. cell < 2 ^ 64) cells → AreSlots m slots
-slots_are m start end cells slots span own is small =
-    let width : length slots - 2 ≡ length cells = omega (arith, ap length is, length-map cells offset_of_cell) in
-    let same : cells ≡ group_cells m (length slots - 2) = own ∙ ap (group_cells m) (sym width) in
-    record {
-      all = is
-          ∙ ap₂ (λ (s : ℕ × ℕ) xs. s.0 ∷ s.1 ∷ map offset_of_cell xs) span same;
-      small = subst (All (λ cell. cell < 2 ^ 64)) same small;
-    }
-
 -- the bytes and the spans so far, for the patterns as they are parsed
 abbrev pub AreReplacedTo : PatternOptions → List (List ℕ) → List ℕ → List ℕ → ℕ → List ℕ → List (ℕ × ℕ) → ℕ → Option ℕ → Type 0
 AreReplacedTo how texts template line total out found count last = (res : List Re) → AreReadAs (line_config how) texts res →
     IsReplacedTo (find (line_pattern how res) line) (written_for how (all_names how texts) res template line) line total out found count last
 
 module _ (how : PatternOptions) (texts : List (List ℕ)) (template line : List ℕ) (total : ℕ) where
-  pub replaces_none : (out : List ℕ) (found : List (ℕ × ℕ)) → out ≡ [] → found ≡ [] → AreReplacedTo how texts template line total out found 0 None
-  replaces_none out found no_bytes no_spans res read =
-      none_replaced (find (line_pattern how res) line) (written_for how (all_names how texts) res template line) line total out found no_bytes no_spans
-
   -- the match that was found
   abbrev Finds : Option ℕ → Option (ℕ × ℕ) → List ℕ → Type 0
   Finds last o cells = (res : List Re) → AreReadAs (line_config how) texts res → HasGroups (comes (find (line_pattern how res) line) last) o cells

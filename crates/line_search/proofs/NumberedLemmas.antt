@@ -163,9 +163,6 @@ abbrev pub NoneOf : PatternOptions → List (List ℕ) → List ℕ → ℕ → 
 NoneOf how ts line start n = (res : List Re) → AreReadAs (line_config how) ts res → (e : Re) (k : ℕ) → k < n →
     is_some (attempt line (bounded how (get_or res k e)) accept start) ≡ false
 
-pub none_yet : (how : PatternOptions) (ts : List (List ℕ)) (line : List ℕ) (start : ℕ) → NoneOf how ts line start 0
-none_yet how ts line start res read e k below = absurd (omega (arith, below))
-
 module _ (how : PatternOptions) (ts : List (List ℕ)) (ps : List (Box Program Global)) (so : AreProgramsOf how ts ps) (line : List ℕ) (start : ℕ) where
   -- what the program of one pattern reports, for what that is read as
   pub record IsTold (k : ℕ) (b : Bool) : Type 0 where

@@ -85,14 +85,6 @@ module _ (a : Re) (line : List ℕ) (end : ℕ) where
       ap (λ t. if t then at (end + 1) else at end)
       (same_test (at end) ∙ ap (λ p. is_some_and p (λ s. s.1 == end)) (sym found.span_is) ∙ is)
 
-  pub stays : (o : Option (ℕ × ℕ)) (cells : List ℕ) → HasGroups (at end) o cells → is_some_and o (λ s. s.1 == end) ≡ false →
-      HasGroups (find_after at end) o cells
-  stays o cells found is = subst (λ m. HasGroups m o cells) (sym (test_is o cells false found is)) found
-
-  pub moves_on : (o : Option (ℕ × ℕ)) (cells : List ℕ) → HasGroups (at end) o cells → is_some_and o (λ s. s.1 == end) ≡ true →
-      (p : Option (ℕ × ℕ)) (now : List ℕ) → HasGroups (at (end + 1)) p now → HasGroups (find_after at end) p now
-  moves_on o cells found is p now next = subst (λ m. HasGroups m p now) (sym (test_is o cells true found is)) next
-
   no_groups : (m : Option Match) (cells : List ℕ) → m ≡ None → HasGroups m None cells
   no_groups m cells none =
       let it : HasGroups None None cells = record { span_is = refl; cells_are = tt } in
@@ -248,15 +240,6 @@ module _ (find_from : ℕ → Option Match) (written : Match → List ℕ) (line
         ≡ replaced_by written line 0 (matches_from find_from total (find_from 0))
     pub spans_are : found ++ written_spans written (unwrap_or last 0) (length out) (left total count last)
         ≡ written_spans written 0 0 (matches_from find_from total (find_from 0))
-
-  pub none_replaced : (total : ℕ) (out : List ℕ) (found : List (ℕ × ℕ)) → out ≡ [] → found ≡ [] → IsReplacedTo total out found 0 None
-  none_replaced total out found no_bytes no_spans =
-      let all : total - 0 ≡ total = omega arith in
-      record {
-        bytes_are = ap₂ (λ o n. o ++ replaced_by written line 0 (matches_from find_from n (find_from 0))) no_bytes all;
-        spans_are = ap₂ (λ f n. f ++ written_spans written 0 (length out) (matches_from find_from n (find_from 0))) no_spans all
-            ∙ ap (λ o. written_spans written 0 (length o) (matches_from find_from total (find_from 0))) no_bytes;
-      }
 
   pub one_replaced : (total : ℕ) (out new : List ℕ) (found now : List (ℕ × ℕ)) (count : ℕ) (last : Option ℕ) (m : Match) →
       IsReplacedTo total out found count last → count < total → comes find_from last ≡ Some m → m.start ≤ length line →

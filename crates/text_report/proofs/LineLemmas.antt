@@ -4,8 +4,8 @@ use Rattle.std.proofs.Common.{length-drop, length-take-le, drop-drop, take_all, 
 use Rattle.std.proofs.lemmas.Option.{none-some, same_Some}
 use Rattle.std.proofs.lemmas.Bool.{ltb-true, ltb-false, true≢false}
 use Rattle.std.specs.List.{position, position_or_len}
-use Rattle.line_search.specs.Lines.{SplitLine, TextLine, ended, numbered, put_first, unended}
-use Rattle.text_report.specs.LineSpans.{IsLineAt, content_of, line_of, lines_from, split_at, whole_end}
+use Rattle.line_search.specs.Lines.{ended, numbered, put_first, unended}
+use Rattle.text_report.specs.LineSpans.{IsLineAt, content_of, line_of, lines_from, split_at}
 use Rattle.text_report.specs.declared.lines.LineSpan.{LineSpan}
 
 some_at : (b : Bool) (k n : ℕ) → cond b (Some k) None ≡ Some n → (b ≡ true) × (k ≡ n)
