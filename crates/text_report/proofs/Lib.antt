@@ -1,3 +1,5 @@
 mod LineLemmas
 mod OrderLemmas
+mod ReportLemmas
+mod SeenLemmas
 mod TouchingLemmas
