@@ -1,5 +1,6 @@
 mod BlockLemmas
 mod CourseLemmas
+pub mod ForCallers
 mod HeadingLemmas
 mod HeldLemmas
 mod JoinLemmas
