@@ -14,8 +14,8 @@ mod ReturnLemmas
 mod RunLemmas
 mod SeenLemmas
 mod StepLemmas
-mod TellingLemmas
+pub mod TellingLemmas
 mod TextLemmas
 mod WholeLemmas
-mod WriteLemmas
+pub mod WriteLemmas
 mod LongLineLemmas

@@ -1,3 +1,5 @@
 mod LineLemmas
+mod OrderLemmas
 mod RecordLemmas
 mod RecordRows
+mod TouchingLemmas

@@ -1,2 +1,5 @@
 pub mod LineSpans
 pub mod Records
+pub mod TextProgress
+pub mod TextReports
+pub mod Touching
