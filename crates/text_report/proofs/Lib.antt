@@ -5,3 +5,4 @@ mod RecordRows
 mod ReportLemmas
 mod SeenLemmas
 mod TouchingLemmas
+mod WholeTextLemmas
