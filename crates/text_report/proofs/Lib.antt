@@ -2,4 +2,6 @@ mod LineLemmas
 mod OrderLemmas
 mod RecordLemmas
 mod RecordRows
+mod ReportLemmas
+mod SeenLemmas
 mod TouchingLemmas
