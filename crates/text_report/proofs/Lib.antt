@@ -1,3 +1,7 @@
 mod LineLemmas
 mod OrderLemmas
+mod RecordLemmas
+mod RecordRows
+mod ReportLemmas
+mod SeenLemmas
 mod TouchingLemmas
