@@ -1,2 +1,4 @@
 pub mod LineSpans
 pub mod Records
+pub mod Events
+pub mod EventCourse
