@@ -31,6 +31,7 @@ how_of f = record {
   lines = is_set f (codes "line-regexp");
   words = is_set f (codes "word-regexp");
   crlf = is_set f (codes "crlf");
+  text = false;
   null = false;
 }
 

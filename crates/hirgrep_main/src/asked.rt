@@ -94,6 +94,7 @@ fn how_of(matches: &ArgMatches<'_>) -> PatternOptions
         lines: is_set(matches, "line-regexp"),
         words: is_set(matches, "word-regexp"),
         crlf: is_set(matches, "crlf"),
+        text: false,
         null: false,
     }
 }

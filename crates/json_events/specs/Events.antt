@@ -35,8 +35,8 @@ abbrev pub bytes_value : List ℕ → List Token
 bytes_value bytes = object (bytes_member bytes)
 
 -- An object as a line.
-abbrev pub line_of : List Token → List ℕ
-line_of tokens = print tokens ++ 10 ∷ []
+abbrev pub as_line : List Token → List ℕ
+as_line tokens = print tokens ++ 10 ∷ []
 
 -- The tokens of an event before its data.
 abbrev pub event_start : List ℕ → List Token

@@ -1,6 +1,6 @@
 //! Objects, each as a line.
 ghost use Rattle.std.specs.Prelude.{◌≡◌, ◌++◌, IfOk, OnOk, map};
-ghost use Rattle.json_events.specs.Events.{begin_event, end_event, event_start, kind_name, line_number, line_of, lines_event, part, path, span_pair, submatch, submatches, summary_event};
+ghost use Rattle.json_events.specs.Events.{begin_event, end_event, event_start, kind_name, line_number, as_line, lines_event, part, path, span_pair, submatch, submatches, summary_event};
 
 use crate::elapsed::{Elapsed, write_sorted_elapsed};
 use crate::stats::{Stats, write_sorted_stats, write_stats};
@@ -75,7 +75,7 @@ fn write_path(alloc: Global, writer: &mut Writer, name: &[u8]) -> Result<(), All
 
 /// Ends the data and the object, and appends them as a line.
 fn finish(out: &mut Vec<u8>, writer: Writer) -> Result<(), AllocError>
-    ensures { OnOk result (out.new.items ≡ out.old.items ++ (writer.before ++ line_of writer.tokens)) }
+    ensures { OnOk result (out.new.items ≡ out.old.items ++ (writer.before ++ as_line writer.tokens)) }
 {
     let text = writer.into_inner();
     out.extend_from_slice(&text)?;
@@ -85,7 +85,7 @@ fn finish(out: &mut Vec<u8>, writer: Writer) -> Result<(), AllocError>
 
 /// Appends the line that begins the objects of an input.
 pub fn push_begin(alloc: Global, out: &mut Vec<u8>, name: &[u8]) -> Result<(), AllocError>
-    ensures { OnOk result (out.new.items ≡ out.old.items ++ line_of (begin_event name.now)) }
+    ensures { OnOk result (out.new.items ≡ out.old.items ++ as_line (begin_event name.now)) }
 {
     let mut writer = Writer::new(Vec::new(alloc));
     begin(&mut writer, "begin")?;
@@ -152,7 +152,7 @@ pub fn push_lines(
     name: &[u8],
     lines: Lines<'_>,
 ) -> Result<(), AllocError>
-    ensures { OnOk result (out.new.items ≡ out.old.items ++ line_of (lines_event name.now lines.entry.kind lines.entry.number lines.entry.place
+    ensures { OnOk result (out.new.items ≡ out.old.items ++ as_line (lines_event name.now lines.entry.kind lines.entry.number lines.entry.place
         lines.entry.bytes.now (map span_pair lines.entry.found.now))) }
 {
     let mut writer = Writer::new(Vec::new(alloc));
@@ -175,7 +175,7 @@ pub fn push_end(
     name: &[u8],
     stats: Stats,
 ) -> Result<(), AllocError>
-    ensures { OnOk result (out.new.items ≡ out.old.items ++ line_of (end_event name.now stats)) }
+    ensures { OnOk result (out.new.items ≡ out.old.items ++ as_line (end_event name.now stats)) }
 {
     let mut writer = Writer::new(Vec::new(alloc));
     begin(&mut writer, "end")?;
@@ -195,7 +195,7 @@ pub fn push_summary(
     stats: Stats,
     total: Elapsed,
 ) -> Result<(), AllocError>
-    ensures { OnOk result (out.new.items ≡ out.old.items ++ line_of (summary_event stats total)) }
+    ensures { OnOk result (out.new.items ≡ out.old.items ++ as_line (summary_event stats total)) }
 {
     let mut writer = Writer::new(Vec::new(alloc));
     writer.begin_object()?;

@@ -12,12 +12,15 @@ pub struct PatternOptions {
     pub fixed: bool,
     /// Letters match in either case.
     pub ignore_case: bool,
-    /// A match is a whole line.
+    /// A match is a whole line, or with `text` it starts where a line starts and ends where one ends.
     pub lines: bool,
     /// A match neither starts nor ends inside a word. With `lines` this has no effect.
     pub words: bool,
     /// A carriage return before the line feed belongs to the end of a line.
     pub crlf: bool,
+    /// What is searched is a text of any number of lines. `^` and `$` match at the edges of each, and a match may span several lines. With
+    /// `crlf`, a carriage return, or one with a line feed, ends a line for `^`, `$` and `.`.
+    pub text: bool,
     /// `.` matches a line feed, too, since zero bytes end lines.
     pub null: bool,
 }
@@ -29,6 +32,8 @@ pub fn config_of(how: &PatternOptions) -> Config
     Config::new()
         .utf8(false)
         .case_insensitive(how.ignore_case)
+        .multi_line(how.text)
+        .crlf(how.text && how.crlf)
         .dot_matches_new_line(how.null)
 }
 

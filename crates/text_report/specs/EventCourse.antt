@@ -1,9 +1,9 @@
 -- What is still to be printed for a text as JSON events, after some of its lines.
-use Rattle.std.specs.Prelude.{◌≡◌, ℕ, zero, suc, ◌+◌, ◌-◌, Bool, true, false, not, List, [], ◌∷◌, drop, length, map, nat_lt, take, if◌then◌else◌}
+use Rattle.std.specs.Prelude.{◌≡◌, ℕ, ◌+◌, Bool, not, ◌&&◌, List, drop, map, if◌then◌else◌}
 use Rattle.std.specs.List.{position_or_len}
 use Rattle.grep_core.specs.Report.{after_of, before_of}
-use Rattle.grep_core.specs.Reporting.{left_of}
-use Rattle.grep_core.specs.Selecting.{any, limited, roles_from}
+use Rattle.grep_core.specs.Reporting.{left_of, may_select}
+use Rattle.grep_core.specs.Selecting.{limited, roles_from}
 use Rattle.grep_core.specs.declared.output_options.OutputOptions.{OutputOptions}
 use Rattle.grep_core.specs.declared.role.Role.{Role}
 use Rattle.line_search.specs.LineMatchers.{LineMatcher, span_pair}
@@ -17,6 +17,10 @@ use Rattle.text_report.specs.declared.turns.Turn.{Turn}
 abbrev pub flags_of : OutputOptions → LineMatcher → ℕ → List SplitLine → List Bool
 flags_of w f n contents =
     limited (left_of w.most n) (map (λ it. if w.invert then not (f.has_match it) else f.has_match it) contents)
+
+-- Whether a line is selected, after n selected ones.
+abbrev pub selects : OutputOptions → ℕ → Bool → Bool
+selects w n has = (if w.invert then not has else has) && may_select w.most n
 
 -- How many lines that aren't selected come before the next selected one, or before the end.
 abbrev pub gap : List Bool → ℕ

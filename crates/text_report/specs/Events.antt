@@ -1,6 +1,6 @@
 -- What is printed for a text in memory as JSON events, and what its statistics are.
 use Rattle.std.specs.Prelude.{ℕ, ◌+◌, Bool, List, [], ◌∷◌, ◌++◌, length, map, nat_lt, slice_range, Option, Some, None, if◌then◌else◌}
-use Rattle.json_events.specs.Events.{begin_event, end_event, line_of, lines_event}
+use Rattle.json_events.specs.Events.{begin_event, end_event, as_line, lines_event}
 use Rattle.json_events.specs.declared.elapsed.Elapsed.{Elapsed}
 use Rattle.json_events.specs.declared.events.Kind.{Kind}
 use Rattle.json_events.specs.declared.events.Kind.TheVariants.{Match, Context}
@@ -45,7 +45,7 @@ abbrev pub shown_found : OutputOptions → Role → List (ℕ × ℕ) → List (
 shown_found w role found = if has_marks w role then found else []
 
 abbrev pub event_of : OutputOptions → List ℕ → Role → EventItem → List ℕ
-event_of w name role it = line_of (lines_event name (kind_of role) (if w.numbers then Some it.number else None) it.place it.bytes
+event_of w name role it = as_line (lines_event name (kind_of role) (if w.numbers then Some it.number else None) it.place it.bytes
     (shown_found w role it.found))
 
 -- What is printed after an item in this role.
@@ -65,7 +65,7 @@ with_items w name (r ∷ rs) (it ∷ items) p = with_items w name rs items (with
 
 -- What is printed for items of which these are selected: the event at the beginning, and those of the items.
 abbrev pub printed_items : OutputOptions → List ℕ → List Bool → List EventItem → Printed
-printed_items w name wanted items = with_items w name (roles_of w wanted) items (printed (line_of (begin_event name)) (counts 0 0 0))
+printed_items w name wanted items = with_items w name (roles_of w wanted) items (printed (as_line (begin_event name)) (counts 0 0 0))
 
 abbrev pub no_stats : Stats
 no_stats = record {
@@ -98,7 +98,7 @@ stats_of w time size p = if nat_lt 0 p.counts.end then full_stats w time size p 
 -- With an event at the end. Of a text of which no line is printed there is no event.
 abbrev pub ended_events : OutputOptions → List ℕ → Elapsed → ℕ → Printed → List ℕ
 ended_events w name time size p =
-    if nat_lt 0 p.counts.end then p.bytes ++ line_of (end_event name (full_stats w time size p)) else []
+    if nat_lt 0 p.counts.end then p.bytes ++ as_line (end_event name (full_stats w time size p)) else []
 
 -- The offset after a line and the byte that ends it.
 abbrev pub line_past : TextLine → ℕ

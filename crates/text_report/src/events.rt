@@ -1,12 +1,14 @@
 //! The JSON events of a text in memory.
-ghost use Rattle.std.specs.Prelude.{◌≡◌, ◌<◌, ◌≤◌, ◌+◌, ◌++◌, ℕ, [], IfErr, IfOk, OnOk, length, map, take, true, true, if◌then◌else◌, nat_lt};
+ghost use Rattle.std.specs.Prelude.{◌≡◌, ◌<◌, ◌≤◌, ◌+◌, ◌++◌, ℕ, List, [], IfErr, IfOk, None, OnOk, Some, length, map, take, true, if◌then◌else◌};
 ghost use Rattle.std.specs.Io.KnownBytes.{Appends};
 ghost use Rattle.line_search.specs.LineMatchers.{span_pair};
 ghost use Rattle.line_search.specs.Searchers.{SearchesFor, found_by};
-ghost use Rattle.json_events.specs.Events.{line_of, lines_event};
+ghost use Rattle.json_events.specs.Events.{as_line, lines_event};
 ghost use Rattle.grep_core.specs.Printing.{has_marks};
-ghost use Rattle.grep_core.specs.Report.{first_of};
-ghost use Rattle.text_report.specs.Events.{EventItem, full_stats, json_report, json_stats, kind_of, no_stats, printed, printed_lines, shown_found, with_item, with_items};
+ghost use Rattle.grep_core.specs.Report.{roles_of};
+ghost use Rattle.grep_core.specs.declared.role.Role.TheVariants.{Beside, Selected};
+ghost use Rattle.text_report.specs.LineSpans.{line_of, whole_end};
+ghost use Rattle.text_report.specs.Events.{EventItem, counts, full_stats, json_report, json_stats, line_item, no_stats, printed, printed_lines, shown_found, with_item, with_items};
 ghost use Rattle.text_report.specs.EventCourse.{IsItem, KnowsNext, line_items, roles_left};
 
 use crate::lines::{LineSpan, line_at};
@@ -61,7 +63,7 @@ fn push_event(
     kind: Kind,
     item: Item<'_>,
 ) -> Result<(), AllocError>
-    ensures { OnOk result (out.new.items ≡ out.old.items ++ line_of (lines_event name.now kind (if what.now.numbers then Some item.entry.number else None)
+    ensures { OnOk result (out.new.items ≡ out.old.items ++ as_line (lines_event name.now kind (if what.now.numbers then Some item.entry.number else None)
         item.entry.place item.entry.bytes.now (map span_pair item.entry.found.now))) }
 {
     let lines = Lines {
@@ -83,8 +85,8 @@ fn push_context(
     item: Item<'_>,
     counts: Counts,
 ) -> Result<Counts, Fault>
-    ensures { IfOk result (λ new. (it : EventItem) → IsItem what.now Role.Beside item.entry it →
-        printed out.new.items new ≡ with_item what.now name.now Role.Beside it (printed out.old.items counts)) }
+    ensures { IfOk result (λ new. (it : EventItem) → IsItem what.now Beside item.entry it →
+        printed out.new.items new ≡ with_item what.now name.now Beside it (printed out.old.items counts)) }
 {
     let end = match sum(item.place, item.bytes.len() as u64) {
         Ok(end) => end,
@@ -109,8 +111,8 @@ fn push_selected(
     item: Item<'_>,
     counts: Counts,
 ) -> Result<Counts, Fault>
-    ensures { IfOk result (λ new. (it : EventItem) → IsItem what.now Role.Selected item.entry it →
-        printed out.new.items new ≡ with_item what.now name.now Role.Selected it (printed out.old.items counts)) }
+    ensures { IfOk result (λ new. (it : EventItem) → IsItem what.now Selected item.entry it →
+        printed out.new.items new ≡ with_item what.now name.now Selected it (printed out.old.items counts)) }
 {
     let end = match sum(item.place, item.bytes.len() as u64) {
         Ok(end) => end,

@@ -1,9 +1,8 @@
 //! Which lines of a text are selected.
-ghost use Rattle.std.specs.Prelude.{◌≡◌, ◌<◌, ◌≤◌, ◌++◌, ◌&&◌, IfOk, drop, length, not, if◌then◌else◌};
+ghost use Rattle.std.specs.Prelude.{◌≡◌, ◌<◌, ◌≤◌, ◌+◌, ◌++◌, IfOk, drop, length, true, if◌then◌else◌};
 ghost use Rattle.grep_core.specs.Report.{selected};
-ghost use Rattle.grep_core.specs.Reporting.{may_select};
 ghost use Rattle.line_search.specs.Searchers.{SearchesFor, found_by};
-ghost use Rattle.text_report.specs.EventCourse.{flags_of};
+ghost use Rattle.text_report.specs.EventCourse.{flags_of, selects};
 ghost use Rattle.text_report.specs.LineSpans.{split_at};
 ghost use Rattle.text_report.specs.Records.{records_of};
 

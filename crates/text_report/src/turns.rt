@@ -1,5 +1,8 @@
 //! The roles of lines, one after the other.
-ghost use Rattle.std.specs.Prelude.{◌≡◌, ◌<◌, ◌≤◌, ◌+◌, ◌∷◌, drop, length};
+ghost use Rattle.std.specs.Prelude.{◌≡◌, ◌<◌, ◌≤◌, ◌+◌, ◌∷◌, drop, length, take, if◌then◌else◌};
+ghost use Rattle.grep_core.specs.Report.{after_of, before_of};
+ghost use Rattle.grep_core.specs.Selecting.{any};
+ghost use Rattle.grep_core.specs.declared.role.Role.TheVariants.{Beside, Hidden};
 ghost use Rattle.text_report.specs.EventCourse.{KnowsNext, gap, roles_left};
 
 use grep_core::{OutputOptions, Role};
@@ -51,7 +54,7 @@ fn after_of(what: &OutputOptions<'_>) -> u64
 fn role_before(what: &OutputOptions<'_>, flags: &[bool], index: usize, next: usize) -> Role
     requires below { index < length flags.now }
     requires known { next ≡ index + 1 + gap (drop (index + 1) flags.now) }
-    ensures { result ≡ (if any (take (before_of what.now.context) (drop (index + 1) flags.now)) then Role.Beside else Role.Hidden) }
+    ensures { result ≡ (if any (take (before_of what.now.context) (drop (index + 1) flags.now)) then Beside else Hidden) }
 {
     if next < flags.len() && ((next - index - 1) as u64) < before_of(what) {
         Role::Beside
