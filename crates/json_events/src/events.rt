@@ -1,10 +1,12 @@
 //! Objects, each as a line.
-ghost use Rattle.std.specs.Prelude.{◌≡◌, ◌++◌, IfOk, OnOk, map};
-ghost use Rattle.json_events.specs.Events.{begin_event, end_event, event_start, kind_name, line_number, as_line, lines_event, part, path, span_pair, submatch, submatches, summary_event};
+ghost use Rattle.std.specs.Prelude.{◌≡◌, ◌++◌, ◌∷◌, [], OnOk, map};
+ghost use Rattle.json.specs.Token.{end_object};
+ghost use Rattle.json_events.specs.Events.{as_line, begin_event, content, end_event, event_start, kind_name, line_number, lines_event, part, path};
+ghost use Rattle.json_events.specs.Events.{span_pair, submatch, submatches, summary_data, summary_event};
 
 use crate::elapsed::{Elapsed, write_sorted_elapsed};
 use crate::stats::{Stats, write_sorted_stats, write_stats};
-use crate::values::{write_data, write_number};
+use crate::values::{write_data, write_null, write_number, write_text};
 use json::Writer;
 use search_types::Span;
 use std::alloc::{AllocError, Global};
@@ -73,14 +75,26 @@ fn write_path(alloc: Global, writer: &mut Writer, name: &[u8]) -> Result<(), All
     write_data(alloc, writer, name)
 }
 
-/// Ends the data and the object, and appends them as a line.
+/// Appends an object as a line.
 fn finish(out: &mut Vec<u8>, writer: Writer) -> Result<(), AllocError>
-    ensures { OnOk result (out.new.items ≡ out.old.items ++ (writer.before ++ as_line writer.tokens)) }
+    requires { writer.before ≡ [] }
+    ensures { OnOk result (out.new.items ≡ out.old.items ++ as_line writer.tokens) }
 {
     let text = writer.into_inner();
     out.extend_from_slice(&text)?;
     out.push(b'\n')?;
     Ok(())
+}
+
+/// Ends the data and the object, and appends it as a line.
+fn finish_event(out: &mut Vec<u8>, writer: Writer) -> Result<(), AllocError>
+    requires { writer.before ≡ [] }
+    ensures { OnOk result (out.new.items ≡ out.old.items ++ as_line (writer.tokens ++ end_object ∷ end_object ∷ [])) }
+{
+    let mut writer = writer;
+    writer.end_object()?;
+    writer.end_object()?;
+    finish(out, writer)
 }
 
 /// Appends the line that begins the objects of an input.
@@ -90,9 +104,7 @@ pub fn push_begin(alloc: Global, out: &mut Vec<u8>, name: &[u8]) -> Result<(), A
     let mut writer = Writer::new(Vec::new(alloc));
     begin(&mut writer, "begin")?;
     write_path(alloc, &mut writer, name)?;
-    writer.end_object()?;
-    writer.end_object()?;
-    finish(out, writer)
+    finish_event(out, writer)
 }
 
 /// Appends a match.
@@ -138,11 +150,23 @@ fn write_line_number(writer: &mut Writer, number: Option<u64>) -> Result<(), All
 {
     match number {
         Some(number) => write_number(writer, "line_number", number),
-        None => {
-            writer.key("line_number")?;
-            writer.null()
-        }
+        None => write_null(writer, "line_number"),
     }
+}
+
+/// Appends what an event has of lines besides their matches.
+fn write_content(
+    alloc: Global,
+    writer: &mut Writer,
+    lines: Lines<'_>,
+) -> Result<(), AllocError>
+    ensures before { writer.new.before ≡ writer.old.before }
+    ensures tokens { OnOk result (writer.new.tokens ≡ writer.old.tokens ++ content lines.entry.number lines.entry.place lines.entry.bytes.now) }
+{
+    writer.key("lines")?;
+    write_data(alloc, writer, lines.bytes)?;
+    write_line_number(writer, lines.number)?;
+    write_number(writer, "absolute_offset", lines.place)
 }
 
 /// Appends a line, or adjacent lines, as a line.
@@ -158,14 +182,9 @@ pub fn push_lines(
     let mut writer = Writer::new(Vec::new(alloc));
     begin(&mut writer, kind_name(lines.kind))?;
     write_path(alloc, &mut writer, name)?;
-    writer.key("lines")?;
-    write_data(alloc, &mut writer, lines.bytes)?;
-    write_line_number(&mut writer, lines.number)?;
-    write_number(&mut writer, "absolute_offset", lines.place)?;
+    write_content(alloc, &mut writer, lines)?;
     write_submatches(alloc, &mut writer, lines.bytes, lines.found)?;
-    writer.end_object()?;
-    writer.end_object()?;
-    finish(out, writer)
+    finish_event(out, writer)
 }
 
 /// Appends the line that ends the objects of an input.
@@ -180,12 +199,25 @@ pub fn push_end(
     let mut writer = Writer::new(Vec::new(alloc));
     begin(&mut writer, "end")?;
     write_path(alloc, &mut writer, name)?;
-    writer.key("binary_offset")?;
-    writer.null()?;
+    write_null(&mut writer, "binary_offset")?;
     write_stats(alloc, &mut writer, stats)?;
-    writer.end_object()?;
-    writer.end_object()?;
-    finish(out, writer)
+    finish_event(out, writer)
+}
+
+/// Appends the data of the summary.
+fn write_summary_data(
+    alloc: Global,
+    writer: &mut Writer,
+    stats: Stats,
+    total: Elapsed,
+) -> Result<(), AllocError>
+    ensures before { writer.new.before ≡ writer.old.before }
+    ensures tokens { OnOk result (writer.new.tokens ≡ writer.old.tokens ++ summary_data stats total) }
+{
+    writer.begin_object()?;
+    write_sorted_elapsed(alloc, writer, "elapsed_total", total)?;
+    write_sorted_stats(alloc, writer, stats)?;
+    writer.end_object()
 }
 
 /// Appends the summary, as a line. Its parts are in the order of their names.
@@ -200,12 +232,8 @@ pub fn push_summary(
     let mut writer = Writer::new(Vec::new(alloc));
     writer.begin_object()?;
     writer.key("data")?;
-    writer.begin_object()?;
-    write_sorted_elapsed(alloc, &mut writer, "elapsed_total", total)?;
-    write_sorted_stats(alloc, &mut writer, stats)?;
-    writer.end_object()?;
-    writer.key("type")?;
-    writer.string("summary")?;
+    write_summary_data(alloc, &mut writer, stats, total)?;
+    write_text(&mut writer, "type", "summary")?;
     writer.end_object()?;
     finish(out, writer)
 }

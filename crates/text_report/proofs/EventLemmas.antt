@@ -1,6 +1,6 @@
 -- What is still to be printed of a text as JSON events, step by step.
 use Rattle.std.proofs.Common.{◌≡◌, ◌≤◌, ◌<◌, ℕ, zero, suc, ◌+◌, ◌-◌, Bool, true, false, not, ◌&&◌, List, [], ◌∷◌, ◌++◌, length, map, take, drop, Option, Some, None, nat_lt}
-use Rattle.std.proofs.Common.{if◌then◌else◌, refl, sym, ap, ap₂, ◌∙◌, subst, append_assoc, arith, get_or, length-drop}
+use Rattle.std.proofs.Common.{if◌then◌else◌, refl, sym, ap, ap₂, ◌∙◌, subst, append_assoc, append-nil, arith, drop_of_length-le, length-drop}
 use Rattle.std.specs.Borrow.{Bor}
 use Rattle.std.proofs.lemmas.Bool.{lt-ltb}
 use Rattle.json_events.specs.Events.{as_line, lines_event}
@@ -149,3 +149,12 @@ pub no_items : (w : OutputOptions) (name : List ℕ) (rs : List Role) (items : L
     with_items w name rs items p ≡ p
 no_items w name [] items p none = refl
 no_items w name (r ∷ rs) items p none = ap (λ it. with_items w name (r ∷ rs) it p) none
+
+pub flags_all : (w : OutputOptions) (f : LineMatcher) (text : List ℕ) (flags : List Bool) (n at : ℕ) → length text ≤ at →
+    flags_of w f 0 (split_at w.terminator text) ≡ flags ++ flags_of w f n (split_at w.terminator (drop at text)) →
+    flags ≡ selected w f (records_of w text)
+flags_all w f text flags n at past kept =
+    sym (append-nil flags)
+    ∙ sym (ap (λ t. flags ++ t) (flags_end w f n (drop at text) (drop_of_length-le text past)))
+    ∙ sym kept
+    ∙ flags_first w f text
