@@ -1,4 +1,6 @@
 mod EventLemmas
+mod EventReportLemmas
 mod LineLemmas
+mod LineMatchLemmas
 mod OrderLemmas
 mod TouchingLemmas

@@ -227,8 +227,9 @@ fn push_line(
         printed out.new.items new
         ≡ with_item what.now name.now role (line_item (found_by by) text.now (line_of text.now line)) (printed out.old.items counts)) }
 {
-    if role == Role::Hidden {
-        return Ok(counts);
+    match role {
+        Role::Hidden => return Ok(counts),
+        Role::Selected | Role::Beside => {}
     }
     let bytes = &text[line.start..line.end];
     let found = match shown_matches(alloc, finder, what, role, bytes, line.is_ended) {

@@ -56,7 +56,10 @@ fn role_before(what: &OutputOptions<'_>, flags: &[bool], index: usize, next: usi
     requires known { next ≡ index + 1 + gap (drop (index + 1) flags.now) }
     ensures { result ≡ (if any (take (before_of what.now.context) (drop (index + 1) flags.now)) then Beside else Hidden) }
 {
-    if next < flags.len() && ((next - index - 1) as u64) < before_of(what) {
+    if next >= flags.len() {
+        return Role::Hidden;
+    }
+    if ((next - index - 1) as u64) < before_of(what) {
         Role::Beside
     } else {
         Role::Hidden
