@@ -15,8 +15,8 @@ pub returns-in-Err-clause-fault : goal.returns-in-Err-clause-fault
 returns-in-Err-clause-fault g c by = none_begun c.args.task (finds_by c.args.task by) c.args.progress.now
     (records_left c.args.task c.args.text.now c.args.start) (g.W.Write.contents c.args.writer.now)
 
-pub returns-in-Err-write_out-clause-fault : goal.returns-in-Err-write_out-clause-fault
-returns-in-Err-write_out-clause-fault g c by =
+pub returns-clause-fault : goal.returns-clause-fault
+returns-clause-fault g c by =
     some_begun c.args.task (finds_by c.args.task by) c.args.progress.now c.report_some.new.progress
     (records_left c.args.task c.args.text.now c.args.start) (records_left c.args.task c.args.text.now c.in-Ok.next)
     c.new-out.result.items c.deref.result.now c.report_some.new.out.items
