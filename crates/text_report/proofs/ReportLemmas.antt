@@ -1,6 +1,6 @@
 -- What is still to be printed for a text goes on by one line, and by several.
-use Rattle.std.proofs.Common.{◌≡◌, ◌≤◌, ◌<◌, ℕ, zero, suc, ◌+◌, ◌-◌, ◌==◌, ◌&&◌, Bool, true, false, List, [], ◌∷◌, ◌++◌, drop, length, map, take}
-use Rattle.std.proofs.Common.{slice_range, Option, Some, None, refl, sym, ap, ap₂, ◌∙◌, subst, arith, append_assoc, append-nil, nat_lt, if◌then◌else◌}
+use Rattle.std.proofs.Common.{◌≡◌, ℕ, zero, suc, ◌+◌, ◌==◌, ◌&&◌, Bool, true, false, List, [], ◌∷◌, ◌++◌, length, map, take}
+use Rattle.std.proofs.Common.{Option, Some, None, refl, sym, ap, ap₂, ◌∙◌, subst, arith, append_assoc, nat_lt, if◌then◌else◌}
 use Rattle.std.proofs.KnownBytes.{Appends-nil, Appends-trans}
 use Rattle.std.proofs.Math.Seq.{take-append-add, take-length}
 use Rattle.std.specs.Io.KnownBytes.{Appends, Keeps}
@@ -8,14 +8,13 @@ use Rattle.line_search.specs.LineMatchers.{LineMatcher}
 use Rattle.line_search.specs.Lines.{TextLine, ended, numbered, put_first, split_lines, text_lines}
 use Rattle.grep_core.proofs.ForCallers.{appends_kept, left_none, limited_step, none_before, one_counted, taken_before}
 use Rattle.grep_core.specs.ContextPrinting.{Item, print_item, still}
-use Rattle.grep_core.specs.Report.{count_line, first_of, name_line, print_lines, roles_of}
-use Rattle.grep_core.specs.Reporting.{counts_matches, left_of, matches_in, may_select, number_of, reported_lines, shown}
+use Rattle.grep_core.specs.Report.{count_line, name_line, print_lines, roles_of}
+use Rattle.grep_core.specs.Reporting.{counts_matches, left_of, matches_in, may_select, reported_lines, shown}
 use Rattle.grep_core.specs.Selecting.{count_selected, limited}
 use Rattle.grep_core.specs.declared.context_printer.ContextPrinter.{ContextPrinter}
 use Rattle.grep_core.specs.declared.output_options.OutputOptions.{OutputOptions}
 use Rattle.grep_core.specs.declared.output_options.Print.{Print}
 use Rattle.grep_core.specs.declared.output_options.Print.TheVariants.{Lines, Matches, Count, CountMatches, NameIfAny, NameIfNone, Nothing}
-use Rattle.grep_core.specs.declared.reporter.Reporter.{Reporter}
 use Rattle.grep_core.specs.declared.separator_state.SeparatorState.{SeparatorState}
 use Rattle.text_report.proofs.SeenLemmas.{still_before}
 use Rattle.text_report.specs.LineSpans.{IsLineAt, line_of, lines_from, split_at, whole_end}

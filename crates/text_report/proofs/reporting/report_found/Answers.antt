@@ -1,8 +1,6 @@
-use Rattle.std.proofs.Common.{◌≡◌, ◌∙◌, ℕ, List, ap, subst, take}
+use Rattle.std.proofs.Common.{◌∙◌, ℕ, List, ap, subst, take}
 use Rattle.std.specs.Io.KnownBytes.{Appends}
 use Rattle.grep_core.specs.Report.{counted_as}
-use Rattle.text_report.specs.TextProgress.{found_of, lines_left, reported_left}
-use Rattle.text_report.specs.TextReports.{report_found}
 use Rattle.text_report.specs.Touching.{AreBefore}
 use Rattle.text_report.specs.declared.reporting.TextProgress.{TextProgress}
 use Rattle.text_report.specs.declared.text_lines.TextPosition.{TextPosition}

@@ -1,4 +1,4 @@
-use Rattle.std.proofs.Common.{◌≡◌, ◌∙◌, ℕ, ap, arith, subst, sym}
+use Rattle.std.proofs.Common.{◌∙◌, ℕ, ap, arith, subst, sym}
 use Rattle.text_report.specs.LineSpans.{line_of}
 use Rattle.text_report.specs.TextProgress.{found_of}
 use Rattle.text_report.specs.Touching.{AreBefore, has_match_of}

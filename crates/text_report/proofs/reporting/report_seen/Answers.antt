@@ -1,4 +1,4 @@
-use Rattle.std.proofs.Common.{◌≡◌, ◌&&◌, ◌∙◌, Bool, List, ap, if◌then◌else◌, map, not}
+use Rattle.std.proofs.Common.{◌&&◌, ◌∙◌, Bool, List, ap, if◌then◌else◌, map, not}
 use Rattle.search_types.specs.declared.span.Span.{Span}
 use Rattle.line_search.specs.LineMatchers.{span_pair}
 use Rattle.line_search.specs.Lines.{TextLine}

@@ -9,10 +9,10 @@ returns-in-Ok-report_found-clause-reported g c by =
     let s = c.args.finder.now in
     let text : List ℕ = c.args.text.now in
     subst (Appends (g.W.Write.contents c.args.writer.now) (g.W.Write.contents c.report_found.new.writer))
-    (whole_text s by text c.crlf.result c.deref.result.now c.in-Ok.found.items c.crlf.ensures c.deref.ensures.value c.in-Ok.ensures.reported
+    (whole_text s by text c.crlf-crlf.result c.deref.result.now c.in-Ok.found.items c.crlf-crlf.ensures c.deref.ensures.value c.in-Ok.ensures.reported
     c.args.what.now c.args.name.now c.args.with_name c.args.known)
     (c.in-Ok-report_found.ensures.reported
-    (are_ordered s by text c.crlf.result c.deref.result.now c.in-Ok.found.items c.crlf.ensures c.deref.ensures.value
+    (are_ordered s by text c.crlf-crlf.result c.deref.result.now c.in-Ok.found.items c.crlf-crlf.ensures c.deref.ensures.value
     c.in-Ok.ensures.reported))
 
 pub returns-in-Ok-report_found-clause-selected : goal.returns-in-Ok-report_found-clause-selected
@@ -20,10 +20,10 @@ returns-in-Ok-report_found-clause-selected g c by =
     let s = c.args.finder.now in
     let text : List ℕ = c.args.text.now in
     c.in-Ok-report_found.ensures.selected
-    (are_ordered s by text c.crlf.result c.deref.result.now c.in-Ok.found.items c.crlf.ensures c.deref.ensures.value
+    (are_ordered s by text c.crlf-crlf.result c.deref.result.now c.in-Ok.found.items c.crlf-crlf.ensures c.deref.ensures.value
     c.in-Ok.ensures.reported)
     ∙ ap (counted_as c.args.what.now.print)
-    (whole_count s by text c.crlf.result c.deref.result.now c.in-Ok.found.items c.crlf.ensures c.deref.ensures.value c.in-Ok.ensures.reported
+    (whole_count s by text c.crlf-crlf.result c.deref.result.now c.in-Ok.found.items c.crlf-crlf.ensures c.deref.ensures.value c.in-Ok.ensures.reported
     c.args.what.now)
 
 pub returns-clause-fault : goal.returns-clause-fault
@@ -32,10 +32,10 @@ returns-clause-fault g c by =
     let text : List ℕ = c.args.text.now in
     let part =
     c.in-Err-report_found.ensures.fault
-    (are_ordered s by text c.crlf.result c.deref.result.now c.in-Ok.found.items c.crlf.ensures c.deref.ensures.value
+    (are_ordered s by text c.crlf-crlf.result c.deref.result.now c.in-Ok.found.items c.crlf-crlf.ensures c.deref.ensures.value
     c.in-Ok.ensures.reported) in (
       part.0,
       subst (λ (l : List ℕ). Appends (g.W.Write.contents c.args.writer.now) (g.W.Write.contents c.report_found.new.writer) (take part.0 l))
-          (whole_text s by text c.crlf.result c.deref.result.now c.in-Ok.found.items c.crlf.ensures c.deref.ensures.value
+          (whole_text s by text c.crlf-crlf.result c.deref.result.now c.in-Ok.found.items c.crlf-crlf.ensures c.deref.ensures.value
           c.in-Ok.ensures.reported c.args.what.now c.args.name.now c.args.with_name c.args.known) part.1,
     )
