@@ -1099,10 +1099,10 @@ static inline PyObject *part_of_bytes(const Haystack *haystack, size_t start, si
 }
 
 /* The part of a str or of a buffer between two offsets, as it is now: a buffer may have been written to, and may be shorter. */
-static PyObject *part_of_other(PyObject *object, Py_ssize_t start, Py_ssize_t end)
+static __attribute__((noinline)) PyObject *part_of_other(PyObject *object, Py_ssize_t start, Py_ssize_t end)
 {
     Haystack haystack;
-    if (PyUnicode_CheckExact(object) || PyUnicode_Check(object))
+    if (PyUnicode_Check(object))
         return PyUnicode_Substring(object, start, end);
     if (open_haystack(&haystack, object) < 0)
         return NULL;
@@ -1123,7 +1123,9 @@ static inline const char *constant_bytes_of(PyObject *object)
 /* The part of a haystack between two offsets, with its `constant_bytes_of`. */
 static inline PyObject *part_of(PyObject *object, const char *bytes, Py_ssize_t start, Py_ssize_t end)
 {
-    return bytes ? PyBytes_FromStringAndSize(bytes + start, end - start) : part_of_other(object, start, end);
+    if (bytes)
+        return PyBytes_FromStringAndSize(bytes + start, end - start);
+    return PyUnicode_CheckExact(object) ? PyUnicode_Substring(object, start, end) : part_of_other(object, start, end);
 }
 
 /* Counts the characters before the offsets of all groups but the whole match. Groups are inside of their match. */
@@ -1152,22 +1154,30 @@ static void move_offsets(const Match *match, const size_t *slots, Py_ssize_t cou
         offsets[i] = slots[2 + i] == HANNEDDOIS_NO_OFFSET ? -1 : (Py_ssize_t)slots[2 + i] - more;
 }
 
+/* The place for the offsets of all groups but the whole match, or NULL with an error. */
+static inline Py_ssize_t *room_for_offsets(Match *match, Py_ssize_t count)
+{
+    if (count - 1 <= FEW_GROUPS)
+        return match->offsets = match->few;
+    match->offsets = malloc((size_t)(count - 1) * 2 * sizeof *match->offsets);
+    if (!match->offsets)
+        PyErr_NoMemory();
+    return match->offsets;
+}
+
 /* Keeps the offsets of all groups but the whole match. Offsets in bytes are those of the slots: HANNEDDOIS_NO_OFFSET is -1 there. */
 static inline int keep_offsets(Match *match, const Haystack *haystack, const size_t *slots, Py_ssize_t count)
 {
-    Py_ssize_t *offsets = count - 1 <= FEW_GROUPS ? match->few : malloc((size_t)(count - 1) * 2 * sizeof *offsets);
-    if (!offsets) {
-        PyErr_NoMemory();
+    Py_ssize_t *offsets = room_for_offsets(match, count);
+    if (!offsets)
         return -1;
-    }
     if (!haystack->has_characters)
-        for (Py_ssize_t i = 0; i < 2 * (count - 1); i++)
-            offsets[i] = (Py_ssize_t)slots[2 + i];
+        for (Py_ssize_t i = 0; i < count - 1; i++)
+            memcpy(offsets + 2 * i, slots + 2 + 2 * i, 2 * sizeof *slots);
     else if (slots[1] - slots[0] == (size_t)(match->end - match->start))
         move_offsets(match, slots, count, offsets);
     else
         count_offsets(match, haystack, slots, count, offsets);
-    match->offsets = offsets;
     return 0;
 }
 
@@ -1288,9 +1298,9 @@ static PyObject *match_group(PyObject *self, PyObject *const *args, Py_ssize_t n
 }
 
 /* The part between two offsets, as `part_of`, or what stands for a group that took no part. */
-static inline PyObject *part_or(const Match *match, const char *bytes, const Py_ssize_t *pair, PyObject *otherwise)
+static inline PyObject *part_or(PyObject *haystack, const char *bytes, const Py_ssize_t *pair, PyObject *otherwise)
 {
-    return pair[0] < 0 ? new_reference(otherwise) : part_of(match->haystack, bytes, pair[0], pair[1]);
+    return pair[0] < 0 ? new_reference(otherwise) : part_of(haystack, bytes, pair[0], pair[1]);
 }
 
 /* The only parameter of groups and groupdict, if there is any argument. */
@@ -1315,6 +1325,37 @@ static inline int parse_default(const char *name, PyObject *const *args, Py_ssiz
     return nargs || keywords ? parse_default_of(name, args, nargs, keywords, parsed) : 0;
 }
 
+/* The tuple of 1 to FEW_GROUPS groups. Packing a few objects costs less than setting each. */
+static inline PyObject *few_groups_of(const Match *match, const Py_ssize_t *offsets, Py_ssize_t count, PyObject *otherwise)
+{
+    PyObject *parts[FEW_GROUPS] = {NULL}, *haystack = match->haystack;
+    const char *bytes = constant_bytes_of(haystack);
+    for (Py_ssize_t i = 0; i < count; i++) {
+        parts[i] = part_or(haystack, bytes, offsets + 2 * i, otherwise);
+        if (parts[i])
+            continue;
+        while (i > 0)
+            Py_DECREF(parts[--i]);
+        return NULL;
+    }
+    PyObject *tuple = PyTuple_Pack(count, parts[0], parts[1], parts[2], parts[3]);
+    for (Py_ssize_t i = 0; i < count; i++)
+        Py_DECREF(parts[i]);
+    return tuple;
+}
+
+static __attribute__((noinline)) PyObject *many_groups_of(const Match *match, const Py_ssize_t *offsets, Py_ssize_t count, PyObject *otherwise)
+{
+    PyObject *parts = PyTuple_New(count);
+    const char *bytes = constant_bytes_of(match->haystack);
+    for (Py_ssize_t i = 0; parts && i < count; i++) {
+        PyObject *part = part_or(match->haystack, bytes, offsets + 2 * i, otherwise);
+        if (!part || PyTuple_SetItem(parts, i, part) < 0)
+            Py_CLEAR(parts);
+    }
+    return parts;
+}
+
 static PyObject *match_groups(PyObject *self, PyObject *const *args, Py_ssize_t nargs, PyObject *keywords)
 {
     Match *match = (Match *)self;
@@ -1322,15 +1363,12 @@ static PyObject *match_groups(PyObject *self, PyObject *const *args, Py_ssize_t 
     Py_ssize_t count = count_of(match);
     if (count < 0 || parse_default("groups", args, nargs, keywords, &otherwise) < 0)
         return NULL;
-    const Py_ssize_t *offsets = count > 1 ? offsets_of(match, count) : match->few;
-    PyObject *parts = offsets ? PyTuple_New(count - 1) : NULL;
-    const char *bytes = constant_bytes_of(match->haystack);
-    for (Py_ssize_t i = 0; parts && i < count - 1; i++) {
-        PyObject *part = part_or(match, bytes, offsets + 2 * i, otherwise);
-        if (!part || PyTuple_SetItem(parts, i, part) < 0)
-            Py_CLEAR(parts);
-    }
-    return parts;
+    if (count == 1)
+        return PyTuple_New(0);
+    const Py_ssize_t *offsets = offsets_of(match, count);
+    if (!offsets)
+        return NULL;
+    return count - 1 <= FEW_GROUPS ? few_groups_of(match, offsets, count - 1, otherwise) : many_groups_of(match, offsets, count - 1, otherwise);
 }
 
 static PyObject *match_groupdict(PyObject *self, PyObject *const *args, Py_ssize_t nargs, PyObject *keywords)
@@ -1348,7 +1386,7 @@ static PyObject *match_groupdict(PyObject *self, PyObject *const *args, Py_ssize
         PyObject *name = PyTuple_GetItem(names, i);
         if (name == Py_None)
             continue;
-        PyObject *part = part_or(match, bytes, offsets + 2 * (i - 1), otherwise);
+        PyObject *part = part_or(match->haystack, bytes, offsets + 2 * (i - 1), otherwise);
         if (!part || PyDict_SetItem(parts, name, part) < 0)
             Py_CLEAR(parts);
         Py_XDECREF(part);
@@ -1794,23 +1832,36 @@ static __attribute__((noinline)) int refill(Iterator *self)
     return 0;
 }
 
-static PyObject *iterator_next(PyObject *object)
+/* The match of a row, with its groups if they were searched for. */
+static inline PyObject *match_of_row(Iterator *self, const hanneddois_match *row, size_t start, size_t end)
 {
-    Iterator *self = (Iterator *)object;
     Scan *scan = &self->scan;
-    if (scan->next == scan->count && !refill(self))
-        return NULL;
-    const hanneddois_match *row = next_row(scan);
-    size_t start = move_to(&self->position, &scan->haystack, row->start);
-    Position position = self->position;
-    Match *match =
-        make_match(scan->matcher, scan->haystack.object, row, start, move_to(&position, &scan->haystack, row->end), &self->place);
+    Match *match = make_match(scan->matcher, scan->haystack.object, row, start, end, &self->place);
     if (!match || !scan->width)
         return (PyObject *)match;
     Py_ssize_t count = group_count(scan->matcher, match->pattern);
     if (count > 1 && keep_offsets(match, &scan->haystack, slots_of(scan), count) < 0)
         Py_CLEAR(match);
     return (PyObject *)match;
+}
+
+/* The match of a row whose offsets count characters. It is a call of its own, so that others save no registers for it. */
+static __attribute__((noinline)) PyObject *match_by_characters(Iterator *self, const hanneddois_match *row)
+{
+    const Haystack *haystack = &self->scan.haystack;
+    size_t start = move_to(&self->position, haystack, row->start);
+    Position position = self->position;
+    return match_of_row(self, row, start, move_to(&position, haystack, row->end));
+}
+
+static PyObject *iterator_next(PyObject *object)
+{
+    Iterator *self = (Iterator *)object;
+    Scan *scan = &self->scan;
+    if (scan->next == scan->count && !refill(self))
+        return NULL;
+    const hanneddois_match *row = &scan->rows[scan->next++];
+    return scan->haystack.has_characters ? match_by_characters(self, row) : match_of_row(self, row, row->start, row->end);
 }
 
 /* Parses the arguments of a search for all matches, and begins it. */
