@@ -1325,7 +1325,9 @@ static inline int parse_default(const char *name, PyObject *const *args, Py_ssiz
     return nargs || keywords ? parse_default_of(name, args, nargs, keywords, parsed) : 0;
 }
 
-/* The tuple of 1 to FEW_GROUPS groups. Packing a few objects costs less than setting each. */
+_Static_assert(FEW_GROUPS == 4, "so many objects are passed to PyTuple_Pack");
+
+/* The tuple of 1 to FEW_GROUPS groups. Packing a few objects costs less than setting each. PyTuple_Pack reads as many as it is told. */
 static inline PyObject *few_groups_of(const Match *match, const Py_ssize_t *offsets, Py_ssize_t count, PyObject *otherwise)
 {
     PyObject *parts[FEW_GROUPS] = {NULL}, *haystack = match->haystack;
@@ -1850,8 +1852,7 @@ static __attribute__((noinline)) PyObject *match_by_characters(Iterator *self, c
 {
     const Haystack *haystack = &self->scan.haystack;
     size_t start = move_to(&self->position, haystack, row->start);
-    Position position = self->position;
-    return match_of_row(self, row, start, move_to(&position, haystack, row->end));
+    return match_of_row(self, row, start, move_to(&self->position, haystack, row->end));
 }
 
 static PyObject *iterator_next(PyObject *object)
