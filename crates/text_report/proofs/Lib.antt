@@ -1,4 +1,7 @@
+mod EventLemmas
+mod EventReportLemmas
 mod LineLemmas
+mod LineMatchLemmas
 mod OrderLemmas
 mod RecordLemmas
 mod RecordRows

@@ -3,3 +3,5 @@ pub mod Records
 pub mod TextProgress
 pub mod TextReports
 pub mod Touching
+pub mod Events
+pub mod EventCourse

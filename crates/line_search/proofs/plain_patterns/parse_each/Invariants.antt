@@ -6,4 +6,4 @@ use Rattle.line_search.proofs.plain_patterns.parse_each.Given as goal
 
 -- the patterns so far have their trees
 abbrev pub invariant-loop-number : goal.invariant-loop-number
-invariant-loop-number l = AllMean (line_config l.how.now) (take l.number (read_texts l.texts)) l.trees.items
+invariant-loop-number l = AllMean (line_config l.how) (take l.number (read_texts l.texts)) l.trees.items
