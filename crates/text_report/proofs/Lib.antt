@@ -8,3 +8,4 @@ mod RecordRows
 mod ReportLemmas
 mod SeenLemmas
 mod TouchingLemmas
+mod WholeTextLemmas

@@ -1,20 +1,20 @@
 -- What is still to be printed for a text goes on by one line, and by several.
-use Rattle.std.proofs.Common.{◌≡◌, ◌≤◌, ◌<◌, ℕ, zero, suc, ◌+◌, ◌-◌, ◌==◌, ◌&&◌, Bool, true, false, List, [], ◌∷◌, ◌++◌, drop, length, map, take}
-use Rattle.std.proofs.Common.{slice_range, Option, Some, None, refl, sym, ap, ap₂, ◌∙◌, subst, arith, append_assoc, append-nil, nat_lt, if◌then◌else◌}
+use Rattle.std.proofs.Common.{◌≡◌, ℕ, zero, suc, ◌+◌, ◌==◌, ◌&&◌, Bool, true, false, List, [], ◌∷◌, ◌++◌, length, map, take}
+use Rattle.std.proofs.Common.{Option, Some, None, refl, sym, ap, ap₂, ◌∙◌, subst, arith, append_assoc, nat_lt, if◌then◌else◌}
 use Rattle.std.proofs.KnownBytes.{Appends-nil, Appends-trans}
-use Rattle.std.proofs.Math.Seq.{take-append-add}
-use Rattle.std.specs.Io.KnownBytes.{Appends}
+use Rattle.std.proofs.Math.Seq.{take-append-add, take-length}
+use Rattle.std.specs.Io.KnownBytes.{Appends, Keeps}
+use Rattle.line_search.specs.LineMatchers.{LineMatcher}
 use Rattle.line_search.specs.Lines.{TextLine, ended, numbered, put_first, split_lines, text_lines}
 use Rattle.grep_core.proofs.ForCallers.{appends_kept, left_none, limited_step, none_before, one_counted, taken_before}
-use Rattle.grep_core.specs.ContextPrinting.{Item, item, print_item, still}
-use Rattle.grep_core.specs.Report.{count_line, first_of, name_line, print_lines, roles_of}
-use Rattle.grep_core.specs.Reporting.{counts_matches, left_of, matches_in, may_select, number_of, reported_lines, shown}
+use Rattle.grep_core.specs.ContextPrinting.{Item, print_item, still}
+use Rattle.grep_core.specs.Report.{count_line, name_line, print_lines, roles_of}
+use Rattle.grep_core.specs.Reporting.{counts_matches, left_of, matches_in, may_select, reported_lines, shown}
 use Rattle.grep_core.specs.Selecting.{count_selected, limited}
 use Rattle.grep_core.specs.declared.context_printer.ContextPrinter.{ContextPrinter}
 use Rattle.grep_core.specs.declared.output_options.OutputOptions.{OutputOptions}
 use Rattle.grep_core.specs.declared.output_options.Print.{Print}
 use Rattle.grep_core.specs.declared.output_options.Print.TheVariants.{Lines, Matches, Count, CountMatches, NameIfAny, NameIfNone, Nothing}
-use Rattle.grep_core.specs.declared.reporter.Reporter.{Reporter}
 use Rattle.grep_core.specs.declared.separator_state.SeparatorState.{SeparatorState}
 use Rattle.text_report.proofs.SeenLemmas.{still_before}
 use Rattle.text_report.specs.LineSpans.{IsLineAt, line_of, lines_from, split_at, whole_end}
@@ -26,8 +26,7 @@ use Rattle.text_report.specs.declared.reporting.TextProgress.{TextProgress}
 use Rattle.text_report.specs.declared.reporting.TextTask.{TextTask}
 
 -- ---- one line
-module _ (p : Print) (w : OutputOptions) (name : List ℕ) (with_name : Bool) (c after : ContextPrinter) (n m k l : ℕ) (sel : Bool)
-    (W : TextLine → Bool) (I : TextLine → Item) (own : TextLine) (it : Item) (selects : sel ≡ (W own && may_select w.most n)) (is : it ≡ I own)
+module _ (w : OutputOptions) (n m : ℕ) (sel : Bool) (W : TextLine → Bool) (own : TextLine) (selects : sel ≡ (W own && may_select w.most n))
     (more : m ≡ n + (if sel then 1 else 0)) (lines : List TextLine) where
   flags_on : limited (left_of w.most n) (map W (own ∷ lines)) ≡ sel ∷ limited (left_of w.most m) (map W lines)
   flags_on =
@@ -35,20 +34,21 @@ module _ (p : Print) (w : OutputOptions) (name : List ℕ) (with_name : Bool) (c
       ∙ ap (λ t. t ∷ limited (left_of w.most (n + (if t then 1 else 0))) (map W lines)) (sym selects)
       ∙ ap (λ j. sel ∷ limited (left_of w.most j) (map W lines)) (sym more)
 
-  pub line_goes_on : (out new : List ℕ) → ((flags : List Bool) (items : List Item) →
-      out ++ reported_lines p w name with_name c k (sel ∷ flags) (it ∷ items) ≡ new ++ reported_lines p w name with_name after l flags items) →
-      out ++ reported_lines p w name with_name c k (limited (left_of w.most n) (map W (own ∷ lines))) (map I (own ∷ lines))
-      ≡ new ++ reported_lines p w name with_name after l (limited (left_of w.most m) (map W lines)) (map I lines)
-  line_goes_on out new goes_on =
-      ap₂ (λ flags i. out ++ reported_lines p w name with_name c k flags (i ∷ map I lines)) flags_on (sym is)
-      ∙ goes_on (limited (left_of w.most m) (map W lines)) (map I lines)
-
   pub line_counts : m + count_selected (limited (left_of w.most m) (map W lines))
       ≡ n + count_selected (limited (left_of w.most n) (map W (own ∷ lines)))
   line_counts =
       ap (λ j. j + count_selected (limited (left_of w.most m) (map W lines))) more
       ∙ one_counted sel n (limited (left_of w.most m) (map W lines))
       ∙ sym (ap (λ flags. n + count_selected flags) flags_on)
+
+  pub line_goes_on : (p : Print) (name : List ℕ) (with_name : Bool) (c after : ContextPrinter) (k l : ℕ) (I : TextLine → Item) (it : Item) →
+      it ≡ I own → (out new : List ℕ) → ((flags : List Bool) (items : List Item) →
+      out ++ reported_lines p w name with_name c k (sel ∷ flags) (it ∷ items) ≡ new ++ reported_lines p w name with_name after l flags items) →
+      out ++ reported_lines p w name with_name c k (limited (left_of w.most n) (map W (own ∷ lines))) (map I (own ∷ lines))
+      ≡ new ++ reported_lines p w name with_name after l (limited (left_of w.most m) (map W lines)) (map I lines)
+  line_goes_on p name with_name c after k l I it is out new goes_on =
+      ap₂ (λ flags i. out ++ reported_lines p w name with_name c k flags (i ∷ map I lines)) flags_on (sym is)
+      ∙ goes_on (limited (left_of w.most m) (map W lines)) (map I lines)
 
 -- ---- lines after each other
 module _ (t : TextTask) where
@@ -122,7 +122,7 @@ module _ (t : TextTask) where
   pub writes_part : (o p : TextProgress) (u w : Option (List ℕ)) → WritesLines t o p u w → WritesPrefix t o u w
   writes_part o p u w a = then_part o p u w w a (no_part p w)
 
-  -- after the last line
+  -- ---- after the last line
   pub ends_written : (o p : TextProgress) (u w v : Option (List ℕ)) → WritesLines t o p u w → lines_left t p ≡ [] →
       Appends w v (reported_left t p.telling []) → Appends u v (lasts o)
   ends_written o p u w v a none last =
@@ -147,6 +147,23 @@ module _ (t : TextTask) where
       ∙ sym (ap (λ flags. p.telling.count + count_selected flags) (none_limited (left_of t.what.now.most p.telling.count)))
       ∙ sym (ap (count_left t p.telling) none)
       ∙ a.counted
+
+-- what is printed after the last line is printed whatever finds matches in lines
+abbrev pub any_matcher : LineMatcher
+any_matcher = record { has_match = λ _. false; spans = λ _. []; replaced = λ _ line. record { content = line; spans = [] } }
+
+module _ (empty out all last : List ℕ) (w v : Option (List ℕ)) (none : empty ≡ []) (told : out ≡ empty ++ last) (same : all ≡ out) where
+  all_last : all ≡ last
+  all_last = same ∙ told ∙ ap (λ l. l ++ last) none
+
+  pub last_written : (u : Option (List ℕ)) → Appends w v all → Keeps v u → Appends w u last
+  last_written u written kept = appends_kept w v u last (subst (Appends w v) all_last written) kept
+
+  pub last_part : (n : ℕ) × Appends w v (take n all) → (n : ℕ) × Appends w v (take n last)
+  last_part part = (part.0, subst (λ l. Appends w v (take part.0 l)) all_last part.1)
+
+  pub last_whole : (u : Option (List ℕ)) → Appends w v all → Keeps v u → (n : ℕ) × Appends w u (take n last)
+  last_whole u written kept = (length last, subst (Appends w u) (sym (take-length last)) (last_written u written kept))
 
 -- ---- before the first line
 pub split_at_ten : (text : List ℕ) → split_at 10 text ≡ split_lines text

@@ -1,5 +1,5 @@
 -- Whether a match of a text counts for a line, and the parts of matches in it.
-use Rattle.std.proofs.Common.{◌≡◌, ◌≤◌, ℕ, ◌-◌, Bool, List, drop, length, map, slice_range, sym, ap, ap₂, ◌∙◌, arith}
+use Rattle.std.proofs.Common.{◌≡◌, ◌≤◌, ℕ, ◌-◌, Bool, List, drop, length, map, slice_range, refl, sym, ap, ap₂, ◌∙◌, subst, arith}
 use Rattle.std.proofs.Common.{length-drop, length-take-le}
 use Rattle.std.specs.List.{filter, list_any}
 use Rattle.search_types.specs.declared.span.Span.{Span}
@@ -58,3 +58,9 @@ pub more_before : (found : List Span) (first next place : ℕ) →
     filter (counts_at begun start end) (map span_pair (drop first found)) ≡ filter (counts_at begun start end) (map span_pair (drop next found))) →
     AreBefore found first place → AreBefore found next place
 more_before found first next place skipped before begun start end low = before begun start end low ∙ skipped begun start end low
+
+-- no match is before the first one
+pub none_before_first : (found : List Span) (first place : ℕ) → first ≡ 0 → AreBefore found first place
+none_before_first found first place is begun start end low =
+    subst (λ (k : ℕ). filter (counts_at begun start end) (map span_pair found)
+    ≡ filter (counts_at begun start end) (map span_pair (drop k found))) (sym is) refl

@@ -1,11 +1,11 @@
 -- Matches of a text before a line, in it and after it.
-use Rattle.std.proofs.Common.{◌≡◌, ◌≤◌, ◌<◌, ℕ, zero, suc, ◌+◌, ◌&&◌, ◌||◌, Bool, true, false, cond, nat_le, nat_lt, not, List, [], ◌∷◌, ◌++◌, drop, get_or}
-use Rattle.std.proofs.Common.{length, map, refl, sym, ap, ap₂, ◌∙◌, subst, arith, append_assoc, append-nil, if◌then◌else◌}
+use Rattle.std.proofs.Common.{◌≡◌, ◌≤◌, ◌<◌, ℕ, zero, suc, ◌+◌, ◌&&◌, ◌||◌, Bool, true, false, cond, nat_le, nat_lt, List, [], ◌∷◌, ◌++◌, drop, get_or}
+use Rattle.std.proofs.Common.{length, map, refl, sym, ap, ◌∙◌, subst, arith, append_assoc, append-nil, if◌then◌else◌}
 use Rattle.std.proofs.Math.Seq.{drop-cons}
 use Rattle.std.specs.List.{filter, list_any}
 use Rattle.search_types.specs.declared.span.Span.{Span}
 use Rattle.line_search.specs.LineMatchers.{span_pair}
-use Rattle.text_report.specs.Touching.{AreBefore, AreInOrder, NoneStartsBefore, begins_at, counts_at, part_at, touches_at}
+use Rattle.text_report.specs.Touching.{AreInOrder, NoneStartsBefore, begins_at, counts_at, part_at, touches_at}
 
 le_false : (a b : ℕ) → b < a → nat_le a b ≡ false
 le_false a b less = grind (arith, less)
