@@ -15,8 +15,8 @@ text_member bytes text same good =
     ap (text_value (codes "text")) same ∙ sym (ap (member_by bytes) (is_utf8-from_IsUtf8 bytes good))
 
 false_if : (b : Bool) → (b ≡ true → ⊥) → b ≡ false
-false_if true no = absurd (no refl)
-false_if false no = refl
+false_if true wrong = absurd (wrong refl)
+false_if false _ = refl
 
 pub encoded_member : (bytes : List ℕ) → (IsUtf8 bytes → ⊥) → text_value (codes "bytes") (encode_of standard bytes) ≡ bytes_member bytes
 encoded_member bytes bad = sym (ap (member_by bytes) (false_if (is_utf8 bytes) (λ e. bad (IsUtf8-from_is_utf8 bytes e))))

@@ -53,7 +53,8 @@ pub(crate) fn write_elapsed(
     write_number(writer, "secs", time.secs)?;
     write_number(writer, "nanos", time.nanos)?;
     write_text(writer, "human", text.as_str())?;
-    writer.end_object()
+    writer.end_object()?;
+    Ok(())
 }
 
 /// Appends a time after this key, with its parts in the order of the summary.
@@ -71,5 +72,6 @@ pub(crate) fn write_sorted_elapsed(
     write_text(writer, "human", text.as_str())?;
     write_number(writer, "nanos", time.nanos)?;
     write_number(writer, "secs", time.secs)?;
-    writer.end_object()
+    writer.end_object()?;
+    Ok(())
 }

@@ -72,7 +72,8 @@ fn write_path(alloc: Global, writer: &mut Writer, name: &[u8]) -> Result<(), All
     ensures tokens { OnOk result (writer.new.tokens ≡ writer.old.tokens ++ path name.now) }
 {
     writer.key("path")?;
-    write_data(alloc, writer, name)
+    write_data(alloc, writer, name)?;
+    Ok(())
 }
 
 /// Appends an object as a line.
@@ -94,7 +95,8 @@ fn finish_event(out: &mut Vec<u8>, writer: Writer) -> Result<(), AllocError>
     let mut writer = writer;
     writer.end_object()?;
     writer.end_object()?;
-    finish(out, writer)
+    finish(out, writer)?;
+    Ok(())
 }
 
 /// Appends the line that begins the objects of an input.
@@ -104,7 +106,8 @@ pub fn push_begin(alloc: Global, out: &mut Vec<u8>, name: &[u8]) -> Result<(), A
     let mut writer = Writer::new(Vec::new(alloc));
     begin(&mut writer, "begin")?;
     write_path(alloc, &mut writer, name)?;
-    finish_event(out, writer)
+    finish_event(out, writer)?;
+    Ok(())
 }
 
 /// Appends a match.
@@ -122,7 +125,8 @@ fn write_submatch(
     write_data(alloc, writer, part(text, span))?;
     write_number(writer, "start", span.start as u64)?;
     write_number(writer, "end", span.end as u64)?;
-    writer.end_object()
+    writer.end_object()?;
+    Ok(())
 }
 
 /// Appends the matches.
@@ -140,7 +144,8 @@ fn write_submatches(
     for span in found {
         write_submatch(alloc, writer, text, *span)?;
     }
-    writer.end_array()
+    writer.end_array()?;
+    Ok(())
 }
 
 /// Appends the number of a line, or that there is none.
@@ -166,7 +171,8 @@ fn write_content(
     writer.key("lines")?;
     write_data(alloc, writer, lines.bytes)?;
     write_line_number(writer, lines.number)?;
-    write_number(writer, "absolute_offset", lines.place)
+    write_number(writer, "absolute_offset", lines.place)?;
+    Ok(())
 }
 
 /// Appends a line, or adjacent lines, as a line.
@@ -184,7 +190,8 @@ pub fn push_lines(
     write_path(alloc, &mut writer, name)?;
     write_content(alloc, &mut writer, lines)?;
     write_submatches(alloc, &mut writer, lines.bytes, lines.found)?;
-    finish_event(out, writer)
+    finish_event(out, writer)?;
+    Ok(())
 }
 
 /// Appends the line that ends the objects of an input.
@@ -201,7 +208,8 @@ pub fn push_end(
     write_path(alloc, &mut writer, name)?;
     write_null(&mut writer, "binary_offset")?;
     write_stats(alloc, &mut writer, stats)?;
-    finish_event(out, writer)
+    finish_event(out, writer)?;
+    Ok(())
 }
 
 /// Appends the data of the summary.
@@ -217,7 +225,8 @@ fn write_summary_data(
     writer.begin_object()?;
     write_sorted_elapsed(alloc, writer, "elapsed_total", total)?;
     write_sorted_stats(alloc, writer, stats)?;
-    writer.end_object()
+    writer.end_object()?;
+    Ok(())
 }
 
 /// Appends the summary, as a line. Its parts are in the order of their names.
@@ -235,5 +244,6 @@ pub fn push_summary(
     write_summary_data(alloc, &mut writer, stats, total)?;
     write_text(&mut writer, "type", "summary")?;
     writer.end_object()?;
-    finish(out, writer)
+    finish(out, writer)?;
+    Ok(())
 }

@@ -32,7 +32,8 @@ fn write_searches(writer: &mut Writer, stats: Stats) -> Result<(), AllocError>
     write_number(writer, "searches", stats.searches)?;
     write_number(writer, "searches_with_match", stats.searches_with_match)?;
     write_number(writer, "bytes_searched", stats.bytes_searched)?;
-    write_number(writer, "bytes_printed", stats.bytes_printed)
+    write_number(writer, "bytes_printed", stats.bytes_printed)?;
+    Ok(())
 }
 
 /// Appends how much was found.
@@ -41,7 +42,8 @@ fn write_matches(writer: &mut Writer, stats: Stats) -> Result<(), AllocError>
     ensures tokens { OnOk result (writer.new.tokens ≡ writer.old.tokens ++ match_counts stats) }
 {
     write_number(writer, "matched_lines", stats.matched_lines)?;
-    write_number(writer, "matches", stats.matches)
+    write_number(writer, "matches", stats.matches)?;
+    Ok(())
 }
 
 /// Appends the statistics of an input.
@@ -57,7 +59,8 @@ pub(crate) fn write_stats(
     write_elapsed(alloc, writer, stats.elapsed)?;
     write_searches(writer, stats)?;
     write_matches(writer, stats)?;
-    writer.end_object()
+    writer.end_object()?;
+    Ok(())
 }
 
 /// Appends how many bytes were printed and searched.
@@ -66,7 +69,8 @@ fn write_sorted_bytes(writer: &mut Writer, stats: Stats) -> Result<(), AllocErro
     ensures tokens { OnOk result (writer.new.tokens ≡ writer.old.tokens ++ byte_counts stats) }
 {
     write_number(writer, "bytes_printed", stats.bytes_printed)?;
-    write_number(writer, "bytes_searched", stats.bytes_searched)
+    write_number(writer, "bytes_searched", stats.bytes_searched)?;
+    Ok(())
 }
 
 /// Appends how many inputs were searched.
@@ -75,7 +79,8 @@ fn write_sorted_searches(writer: &mut Writer, stats: Stats) -> Result<(), AllocE
     ensures tokens { OnOk result (writer.new.tokens ≡ writer.old.tokens ++ input_counts stats) }
 {
     write_number(writer, "searches", stats.searches)?;
-    write_number(writer, "searches_with_match", stats.searches_with_match)
+    write_number(writer, "searches_with_match", stats.searches_with_match)?;
+    Ok(())
 }
 
 /// Appends what was counted of all inputs, after the bytes.
@@ -84,7 +89,8 @@ fn write_sorted_counts(writer: &mut Writer, stats: Stats) -> Result<(), AllocErr
     ensures tokens { OnOk result (writer.new.tokens ≡ writer.old.tokens ++ (match_counts stats ++ input_counts stats)) }
 {
     write_matches(writer, stats)?;
-    write_sorted_searches(writer, stats)
+    write_sorted_searches(writer, stats)?;
+    Ok(())
 }
 
 /// Appends the statistics of all inputs, by name.
@@ -100,5 +106,6 @@ pub(crate) fn write_sorted_stats(
     write_sorted_bytes(writer, stats)?;
     write_sorted_elapsed(alloc, writer, "elapsed", stats.elapsed)?;
     write_sorted_counts(writer, stats)?;
-    writer.end_object()
+    writer.end_object()?;
+    Ok(())
 }

@@ -73,5 +73,6 @@ pub(crate) fn write_data(alloc: Global, writer: &mut Writer, bytes: &[u8]) -> Re
 {
     writer.begin_object()?;
     write_member(alloc, writer, bytes)?;
-    writer.end_object()
+    writer.end_object()?;
+    Ok(())
 }
