@@ -3,4 +3,9 @@ mod EventReportLemmas
 mod LineLemmas
 mod LineMatchLemmas
 mod OrderLemmas
+mod RecordLemmas
+mod RecordRows
+mod ReportLemmas
+mod SeenLemmas
 mod TouchingLemmas
+mod WholeTextLemmas
