@@ -160,11 +160,7 @@ fn write_line_number(writer: &mut Writer, number: Option<u64>) -> Result<(), All
 }
 
 /// Appends what an event has of lines besides their matches.
-fn write_content(
-    alloc: Global,
-    writer: &mut Writer,
-    lines: Lines<'_>,
-) -> Result<(), AllocError>
+fn write_content(alloc: Global, writer: &mut Writer, lines: Lines<'_>) -> Result<(), AllocError>
     ensures before { writer.new.before ≡ writer.old.before }
     ensures tokens { OnOk result (writer.new.tokens ≡ writer.old.tokens ++ content lines.entry.number lines.entry.place lines.entry.bytes.now) }
 {

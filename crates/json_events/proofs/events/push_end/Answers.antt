@@ -1,6 +1,6 @@
-use Rattle.std.proofs.Common.{◌≡◌, ◌++◌, ◌∷◌, [], ◌∙◌, ap, append_assoc, map}
+use Rattle.std.proofs.Common.{◌≡◌, ◌++◌, ◌∷◌, [], ◌∙◌, ap, append_assoc}
 use Rattle.json.specs.Token.{end_object}
-use Rattle.json_events.specs.Events.{as_line, end_event, span_pair}
+use Rattle.json_events.specs.Events.{as_line, end_event}
 use Rattle.json_events.proofs.events.push_end.Goals as goal
 
 pub returns : goal.returns

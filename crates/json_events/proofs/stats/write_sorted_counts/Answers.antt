@@ -1,4 +1,4 @@
-use Rattle.std.proofs.Common.{append_assoc, ap, ◌++◌, ◌∷◌, [], ◌∙◌}
+use Rattle.std.proofs.Common.{append_assoc}
 use Rattle.json_events.proofs.stats.write_sorted_counts.Goals as goal
 
 pub returns-clause-tokens : goal.returns-clause-tokens
