@@ -27,11 +27,18 @@ mod role;
 mod separator_state;
 mod texts;
 
+pub use blocks::report_one;
 pub use colors::Colors;
+pub use context_printer::{ContextPrinter, Waiting, first_of};
 pub use heading::{Headed, report_headed};
 pub use line::Line;
-pub use looking::needs_spans;
+pub use looking::{needs_spans, searched};
 pub use output_options::{Context, GroupSeparator, OutputOptions, Print};
-pub use reading::report_input;
+pub use progress::{Progress, Task};
+pub use reading::{count_of, flush, is_task_over, report_input, write_end, write_out};
+pub use reporter::{
+    Reporter, counted_as, counts_matches, is_selected, may_select, prints_lines, report_end,
+    report_flagged,
+};
 pub use role::Role;
 pub use separator_state::SeparatorState;

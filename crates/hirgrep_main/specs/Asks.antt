@@ -31,6 +31,8 @@ how_of f = record {
   lines = is_set f (codes "line-regexp");
   words = is_set f (codes "word-regexp");
   crlf = is_set f (codes "crlf");
+  text = false;
+  null = false;
 }
 
 -- -q, -L, -l, -c, --count-matches, -o: of several options, the one that prints least takes effect. Of -c and --count-matches the later one
@@ -155,6 +157,7 @@ what_of f is_colorful texts groups replacement = record {
   width = 0;
   groups = groups;
   replacement = replacement;
+  terminator = 10;
 }
 
 -- -S, -R, -s, --stats, and what is above

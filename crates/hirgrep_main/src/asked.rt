@@ -94,6 +94,8 @@ fn how_of(matches: &ArgMatches<'_>) -> PatternOptions
         lines: is_set(matches, "line-regexp"),
         words: is_set(matches, "word-regexp"),
         crlf: is_set(matches, "crlf"),
+        text: false,
+        null: false,
     }
 }
 
@@ -359,6 +361,7 @@ fn what_of<'a>(
         width: 0,
         groups,
         replacement,
+        terminator: b'\n',
     }
 }
 

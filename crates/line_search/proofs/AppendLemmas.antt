@@ -1,18 +1,14 @@
 -- What is appended for a match, and the line with all matches replaced.
-use Rattle.std.proofs.Common.{◌≡◌, ℕ, ◌+◌, ◌-◌, ◌*◌, ◌^◌, ◌<◌, ◌≤◌, All, List, [], ◌∷◌, ◌++◌, length, map, slice_range, Option, Some, None, option_map, refl, sym, ap, ap₂, ◌∙◌, subst, arith}
-use Rattle.std.proofs.lemmas.List.{length-map}
+use Rattle.std.proofs.Common.{◌≡◌, ℕ, ◌+◌, ◌-◌, ◌*◌, ◌^◌, ◌<◌, ◌≤◌, List, [], ◌∷◌, ◌++◌, length, slice_range, Option, Some, None, sym, ap, ◌∙◌, subst}
 use Rattle.std.specs.Option.{unwrap_or}
 use Rattle.regex_hir.specs.Re.{Re, accept, attempt}
 use Rattle.regex_hir.specs.Find.{Match, find, matches_from}
-use Rattle.regex_meta.specs.Programs.{pattern_of}
-use Rattle.regex_meta.specs.declared.program.Program.{Program}
 use Rattle.regex_vm.specs.Found.{group_cells}
 use Rattle.regex.specs.Replace.{replaced_by}
 use Rattle.regex.specs.Templates.{written_after}
 use Rattle.regex_syntax.specs.Grammar.{Names}
 use Rattle.pattern_search.specs.Searches.{span_of_match}
 use Rattle.pattern_search.specs.Texts.{AreReadAs}
-use Rattle.group_finder.specs.Slots.{offset_of_cell}
 use Rattle.templates.specs.Expansion.{IsReadFrom, template_text}
 use Rattle.templates.specs.Slots.{group_in}
 use Rattle.templates.specs.declared.template.Template.{Template}
@@ -43,6 +39,10 @@ AreReplacedTo how texts template line total out found count last = (res : List R
     IsReplacedTo (find (line_pattern how res) line) (written_for how (all_names how texts) res template line) line total out found count last
 
 module _ (how : PatternOptions) (texts : List (List ℕ)) (template line : List ℕ) (total : ℕ) where
+  pub replaces_none : (out : List ℕ) (found : List (ℕ × ℕ)) → out ≡ [] → found ≡ [] → AreReplacedTo how texts template line total out found 0 None
+  replaces_none out found no_bytes no_spans res read =
+      none_replaced (find (line_pattern how res) line) (written_for how (all_names how texts) res template line) line total out found no_bytes no_spans
+
   -- the match that was found
   abbrev Finds : Option ℕ → Option (ℕ × ℕ) → List ℕ → Type 0
   Finds last o cells = (res : List Re) → AreReadAs (line_config how) texts res → HasGroups (comes (find (line_pattern how res) line) last) o cells

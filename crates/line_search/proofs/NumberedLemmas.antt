@@ -1,5 +1,5 @@
 -- Which pattern a match is of, and the names of its groups.
-use Rattle.std.proofs.Common.{◌≡◌, ℕ, zero, suc, ◌+◌, ◌-◌, ◌<◌, ◌≤◌, ◌==◌, Bool, true, false, not, All, List, [], ◌∷◌, ◌++◌, length, map, take, get_or, slice_get, slice_index_or, chars, Option, Some, None, IsSomeAnd, option_map, Box, if◌then◌else◌}
+use Rattle.std.proofs.Common.{◌≡◌, ℕ, zero, suc, ◌+◌, ◌-◌, ◌<◌, ◌≤◌, ◌==◌, Bool, true, false, not, All, List, [], ◌∷◌, ◌++◌, length, take, get_or, slice_get, slice_index_or, chars, Option, Some, None, IsSomeAnd, option_map, Box, if◌then◌else◌}
 use Rattle.std.proofs.Common.{refl, sym, ap, ◌∙◌, subst, arith, ◌⊎◌, inl, inr, ⊎_elim}
 use Rattle.std.specs.Borrow.{Bor}
 use Rattle.std.proofs.lemmas.Bool.{cases_lt}

@@ -1,0 +1,7 @@
+use Rattle.text_report.proofs.EventReportLemmas.{selected_item}
+use Rattle.text_report.proofs.events.push_selected.Goals as goal
+
+pub returns-in-Ok-push_event : goal.returns-in-Ok-push_event
+returns-in-Ok-push_event c it is =
+    selected_item c.args.what.now c.args.name.now it c.args.item c.args.counts c.args.out.now.items c.push_event.new.out.items c.in-Ok.end
+    c.in-Ok-lines.lines c.in-Ok-matches.matches is c.in-Ok-push_event.ensures c.in-Ok.ensures c.in-Ok-lines.ensures ?
