@@ -5,8 +5,8 @@ definition of json.md in Python. Lines and matches are those of multiline_model.
 are left out of the comparison: whatever they are, they are printed in ripgrep's form. Run it with rg 13 in PATH: json_model.py [SEED [COUNT]].
 It prints how many runs differ.
 
-`json_model.py --events FOLDER` and `json_model.py --reports FOLDER` write cases for `rt try --cases FOLDER` in crates/json_events_main and
-crates/text_report_main of json.patch."""
+`json_model.py --events FOLDER` and `json_model.py --reports FOLDER` write cases for `rt try --cases FOLDER` in a program over `json_events` or
+`text_report` that takes its arguments as `write_events` and `write_reports` say."""
 import base64, os, random, re, subprocess, sys, tempfile
 from multiline_model import QUIRKS, blocks_of, can_feed, case, expression, limited, matches, rg_output, text_lines, touches, whole, words
 import multiline_model

@@ -58,8 +58,8 @@ path name = key (codes "path") ∷ bytes_value name
 abbrev pub begin_event : List ℕ → List Token
 begin_event name = event (codes "begin") (path name)
 
-abbrev pub span_pair : Span → ℕ × ℕ
-span_pair s = (s.start, s.end)
+abbrev pub span_ends : Span → ℕ × ℕ
+span_ends s = (s.start, s.end)
 
 -- The bytes between two offsets, or none if that isn't a part of the text.
 abbrev pub part : List ℕ → ℕ × ℕ → List ℕ

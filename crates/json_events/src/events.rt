@@ -2,7 +2,7 @@
 ghost use Rattle.std.specs.Prelude.{◌≡◌, ◌++◌, ◌∷◌, [], OnOk, map};
 ghost use Rattle.json.specs.Token.{end_object};
 ghost use Rattle.json_events.specs.Events.{as_line, begin_event, content, end_event, event_start, kind_name, line_number, lines_event, part, path};
-ghost use Rattle.json_events.specs.Events.{span_pair, submatch, submatches, summary_data, summary_event};
+ghost use Rattle.json_events.specs.Events.{span_ends, submatch, submatches, summary_data, summary_event};
 
 use crate::elapsed::{Elapsed, write_sorted_elapsed};
 use crate::stats::{Stats, write_sorted_stats, write_stats};
@@ -36,7 +36,7 @@ pub struct Lines<'a> {
 
 /// The part of a text between two offsets.
 fn part(text: &[u8], span: Span) -> &[u8]
-    ensures { result.now ≡ part text.now (span_pair span) }
+    ensures { result.now ≡ part text.now (span_ends span) }
 {
     match text.get(span.start..span.end) {
         Some(part) => part,
@@ -118,7 +118,7 @@ fn write_submatch(
     span: Span,
 ) -> Result<(), AllocError>
     ensures before { writer.new.before ≡ writer.old.before }
-    ensures tokens { OnOk result (writer.new.tokens ≡ writer.old.tokens ++ submatch text.now (span_pair span)) }
+    ensures tokens { OnOk result (writer.new.tokens ≡ writer.old.tokens ++ submatch text.now (span_ends span)) }
 {
     writer.begin_object()?;
     writer.key("match")?;
@@ -137,7 +137,7 @@ fn write_submatches(
     found: &[Span],
 ) -> Result<(), AllocError>
     ensures before { writer.new.before ≡ writer.old.before }
-    ensures tokens { OnOk result (writer.new.tokens ≡ writer.old.tokens ++ submatches text.now (map span_pair found.now)) }
+    ensures tokens { OnOk result (writer.new.tokens ≡ writer.old.tokens ++ submatches text.now (map span_ends found.now)) }
 {
     writer.key("submatches")?;
     writer.begin_array()?;
@@ -179,7 +179,7 @@ pub fn push_lines(
     lines: Lines<'_>,
 ) -> Result<(), AllocError>
     ensures { OnOk result (out.new.items ≡ out.old.items ++ as_line (lines_event name.now lines.entry.kind lines.entry.number lines.entry.place
-        lines.entry.bytes.now (map span_pair lines.entry.found.now))) }
+        lines.entry.bytes.now (map span_ends lines.entry.found.now))) }
 {
     let mut writer = Writer::new(Vec::new(alloc));
     begin(&mut writer, kind_name(lines.kind))?;

@@ -15,7 +15,7 @@ use Rattle.grep_core.specs.declared.output_options.OutputOptions.{OutputOptions}
 use Rattle.grep_core.specs.declared.role.Role.{Role}
 use Rattle.grep_core.specs.declared.role.Role.TheVariants.{Beside, Hidden, Selected}
 use Rattle.text_report.specs.EventCourse.{flags_of, gap, selects}
-use Rattle.text_report.specs.Events.{EventItem, Printed, event_of, kind_of, shown_found, with_items}
+use Rattle.text_report.specs.Events.{EventItem, Printed, event_of, event_kind, shown_found, with_events}
 use Rattle.text_report.specs.LineSpans.{split_at}
 use Rattle.text_report.specs.Records.{records_of}
 
@@ -165,16 +165,16 @@ by_four F n m p q x y s t e1 e2 e3 e4 =
 
 pub event_is : (w : OutputOptions) (name : List ℕ) (role : Role) (it : EventItem) (number place : ℕ) (bytes : List ℕ)
     (found : List (ℕ × ℕ)) → number ≡ it.number → place ≡ it.place → bytes ≡ it.bytes → found ≡ shown_found w role it.found →
-    as_line (lines_event name (kind_of role) (if w.numbers then Some number else None) place bytes found) ≡ event_of w name role it
+    as_line (lines_event name (event_kind role) (if w.numbers then Some number else None) place bytes found) ≡ event_of w name role it
 event_is w name role it number place bytes found e1 e2 e3 e4 =
-    by_four (λ n p bs fs. as_line (lines_event name (kind_of role) (if w.numbers then Some n else None) p bs fs)) number it.number place
+    by_four (λ n p bs fs. as_line (lines_event name (event_kind role) (if w.numbers then Some n else None) p bs fs)) number it.number place
     it.place bytes it.bytes found (shown_found w role it.found) e1 e2 e3 e4
 
 -- nothing is printed after the last item
 pub no_items : (w : OutputOptions) (name : List ℕ) (rs : List Role) (items : List EventItem) (p : Printed) → items ≡ [] →
-    with_items w name rs items p ≡ p
+    with_events w name rs items p ≡ p
 no_items w name [] items p none = refl
-no_items w name (r ∷ rs) items p none = ap (λ it. with_items w name (r ∷ rs) it p) none
+no_items w name (r ∷ rs) items p none = ap (λ it. with_events w name (r ∷ rs) it p) none
 
 pub flags_all : (w : OutputOptions) (f : LineMatcher) (text : List ℕ) (flags : List Bool) (n at : ℕ) → length text ≤ at →
     flags_of w f 0 (split_at w.terminator text) ≡ flags ++ flags_of w f n (split_at w.terminator (drop at text)) →

@@ -17,8 +17,8 @@ use Rattle.grep_core.specs.Selecting.{roles_from}
 use Rattle.grep_core.specs.declared.output_options.OutputOptions.{OutputOptions}
 use Rattle.grep_core.specs.declared.role.Role.{Role}
 use Rattle.grep_core.specs.declared.role.Role.TheVariants.{Beside, Hidden, Selected}
-use Rattle.text_report.specs.EventCourse.{IsItem, line_items}
-use Rattle.text_report.specs.Events.{EventItem, Printed, counts, ended_events, event_of, full_stats, line_item, line_past, no_stats, printed, printed_lines, shown_found, stats_of, with_item, with_items}
+use Rattle.text_report.specs.EventCourse.{IsEventItem, line_items}
+use Rattle.text_report.specs.Events.{EventItem, Printed, tally, ended_events, event_of, full_stats, line_item, line_past, no_stats, printed, printed_lines, shown_found, stats_of, with_event, with_events}
 use Rattle.text_report.specs.LineSpans.{line_of, lines_from, whole_end}
 use Rattle.text_report.specs.Records.{records_of}
 use Rattle.text_report.specs.declared.events.Counts.{Counts}
@@ -29,30 +29,30 @@ use Rattle.text_report.proofs.LineLemmas.{none_from}
 
 -- ---- one item
 module _ (w : OutputOptions) (name : List ℕ) (it : EventItem) (item : Item) (c : Counts) (old new : List ℕ) (end : ℕ) where
-  ends_at : (role : Role) → IsItem w role item it → end ≡ item.place + length item.bytes.now → end ≡ it.place + length it.bytes
+  ends_at : (role : Role) → IsEventItem w role item it → end ≡ item.place + length item.bytes.now → end ≡ it.place + length it.bytes
   ends_at role is e = e ∙ ap₂ (λ p bs. p + length bs) is.place is.bytes
 
-  pub context_item : IsItem w Beside item it →
+  pub context_item : IsEventItem w Beside item it →
       new ≡ old ++ as_line (lines_event name Context (if w.numbers then Some item.number else None) item.place item.bytes.now
       (map span_pair item.found.now)) → end ≡ item.place + length item.bytes.now →
-      printed new (counts c.lines c.matches end) ≡ with_item w name Beside it (printed old c)
+      printed new (tally c.lines c.matches end) ≡ with_event w name Beside it (printed old c)
   context_item is e ends =
-      ap₂ (λ bs n. printed bs (counts c.lines c.matches n))
+      ap₂ (λ bs n. printed bs (tally c.lines c.matches n))
       (e ∙ ap (λ bs. old ++ bs) (event_is w name Beside it item.number item.place item.bytes.now (map span_pair item.found.now) is.number
           is.place is.bytes is.found))
       (ends_at Beside is ends)
 
-  pub selected_item : (lines matches : ℕ) → IsItem w Selected item it →
+  pub selected_item : (lines matches : ℕ) → IsEventItem w Selected item it →
       new ≡ old ++ as_line (lines_event name Match (if w.numbers then Some item.number else None) item.place item.bytes.now
       (map span_pair item.found.now)) → end ≡ item.place + length item.bytes.now → lines ≡ c.lines + item.lines →
       matches ≡ c.matches + length (map span_pair item.found.now) →
-      printed new (counts lines matches end) ≡ with_item w name Selected it (printed old c)
+      printed new (tally lines matches end) ≡ with_event w name Selected it (printed old c)
   selected_item lines matches is e ends more found =
-      ap₂ (λ bs n. printed bs (counts lines matches n))
+      ap₂ (λ bs n. printed bs (tally lines matches n))
       (e ∙ ap (λ bs. old ++ bs) (event_is w name Selected it item.number item.place item.bytes.now (map span_pair item.found.now) is.number
           is.place is.bytes is.found))
       (ends_at Selected is ends)
-      ∙ ap₂ (λ n m. printed (old ++ event_of w name Selected it) (counts n m (it.place + length it.bytes)))
+      ∙ ap₂ (λ n m. printed (old ++ event_of w name Selected it) (tally n m (it.place + length it.bytes)))
       (more ∙ ap (λ n. c.lines + n) is.lines) (found ∙ ap (λ fs. c.matches + length fs) is.found)
 
 -- ---- one line
@@ -72,7 +72,7 @@ pub line_is_item : (w : OutputOptions) (f : LineMatcher) (role : Role) (text : L
     line.start ≤ line.end → line.end ≤ length text → item.number ≡ line.number → item.place ≡ line.start →
     item.bytes.now ≡ slice_range text line.start (whole_end line) →
     map span_pair item.found.now ≡ shown_found w role (f.spans (line_of text line).content) → item.lines ≡ 1 →
-    IsItem w role item (line_item f text (line_of text line))
+    IsEventItem w role item (line_item f text (line_of text line))
 line_is_item w f role text line item ordered inside number place bytes found lines = record {
   number = number;
   place = place;
@@ -84,15 +84,15 @@ line_is_item w f role text line item ordered inside number place bytes found lin
 pub one_line : (w : OutputOptions) (name : List ℕ) (f : LineMatcher) (text : List ℕ) (rs0 rs : List Role) (role : Role) (n m at next : ℕ)
     (line : LineSpan) (p q : Printed) → rs0 ≡ role ∷ rs →
     lines_from w.terminator text n at ≡ line_of text line ∷ lines_from w.terminator text (n + 1) next → m ≡ n + 1 →
-    q ≡ with_item w name role (line_item f text (line_of text line)) p →
-    with_items w name rs0 (line_items w f text n at) p ≡ with_items w name rs (line_items w f text m next) q
+    q ≡ with_event w name role (line_item f text (line_of text line)) p →
+    with_events w name rs0 (line_items w f text n at) p ≡ with_events w name rs (line_items w f text m next) q
 one_line w name f text rs0 rs role n m at next line p q first lines on is =
-    ap₂ (λ r ls. with_items w name r (map (line_item f text) ls) p) first lines
-    ∙ ap₂ (λ k it. with_items w name rs (line_items w f text k next) it) (sym on) (sym is)
+    ap₂ (λ r ls. with_events w name r (map (line_item f text) ls) p) first lines
+    ∙ ap₂ (λ k it. with_events w name rs (line_items w f text k next) it) (sym on) (sym is)
 
 -- after the last line
 pub all_lines : (w : OutputOptions) (name : List ℕ) (f : LineMatcher) (text : List ℕ) (rs : List Role) (n at : ℕ) (p q : Printed) →
-    length text ≤ at → with_items w name rs (line_items w f text n at) p ≡ q → p ≡ q
+    length text ≤ at → with_events w name rs (line_items w f text n at) p ≡ q → p ≡ q
 all_lines w name f text rs n at p q past kept =
     sym (no_items w name rs (line_items w f text n at) p
         (ap (map (line_item f text)) (none_from w.terminator text n at (drop_of_length-le text past))))
@@ -101,18 +101,18 @@ all_lines w name f text rs n at p q past kept =
 -- before the first line
 pub first_line_of : (w : OutputOptions) (name : List ℕ) (items : List EventItem) (flags : List Bool) (left : ℕ) (p : Printed) →
     left ≡ first_of w.context →
-    with_items w name (roles_from (before_of w.context) (after_of w.context) left flags) items p
-    ≡ with_items w name (roles_of w flags) items p
+    with_events w name (roles_from (before_of w.context) (after_of w.context) left flags) items p
+    ≡ with_events w name (roles_of w flags) items p
 first_line_of w name items flags left p e =
-    ap (λ n. with_items w name (roles_from (before_of w.context) (after_of w.context) n flags) items p) e
+    ap (λ n. with_events w name (roles_from (before_of w.context) (after_of w.context) n flags) items p) e
 
 pub begun_lines : (w : OutputOptions) (f : LineMatcher) (name text : List ℕ) (flags : List Bool) (none out : List ℕ) (p : Printed) →
     none ≡ [] → out ≡ none ++ as_line (begin_event name) → flags ≡ selected w f (records_of w text) →
-    p ≡ with_items w name (roles_of w flags) (line_items w f text 1 0) (printed out (counts 0 0 0)) →
+    p ≡ with_events w name (roles_of w flags) (line_items w f text 1 0) (printed out (tally 0 0 0)) →
     p ≡ printed_lines w f name text
 begun_lines w f name text flags none out p empty begun are is =
     is
-    ∙ ap₂ (λ fs bs. with_items w name (roles_of w fs) (line_items w f text 1 0) (printed bs (counts 0 0 0))) are
+    ∙ ap₂ (λ fs bs. with_events w name (roles_of w fs) (line_items w f text 1 0) (printed bs (tally 0 0 0))) are
     (begun ∙ ap (λ bs. bs ++ as_line (begin_event name)) empty)
 
 -- ---- the end of a text

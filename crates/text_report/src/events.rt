@@ -8,8 +8,8 @@ ghost use Rattle.grep_core.specs.Printing.{has_marks};
 ghost use Rattle.grep_core.specs.Report.{roles_of};
 ghost use Rattle.grep_core.specs.declared.role.Role.TheVariants.{Beside, Selected};
 ghost use Rattle.text_report.specs.LineSpans.{line_of, whole_end};
-ghost use Rattle.text_report.specs.Events.{EventItem, counts, full_stats, json_report, json_stats, line_item, no_stats, printed, printed_lines, shown_found, with_item, with_items};
-ghost use Rattle.text_report.specs.EventCourse.{IsItem, KnowsNext, line_items, roles_left};
+ghost use Rattle.text_report.specs.Events.{EventItem, tally, full_stats, json_report, json_stats, line_item, no_stats, printed, printed_lines, shown_found, with_event, with_events};
+ghost use Rattle.text_report.specs.EventCourse.{IsEventItem, KnowsNext, line_items, roles_left};
 
 use crate::lines::{LineSpan, line_at};
 use crate::selecting::select_lines;
@@ -85,8 +85,8 @@ fn push_context(
     item: Item<'_>,
     counts: Counts,
 ) -> Result<Counts, Fault>
-    ensures { IfOk result (λ new. (it : EventItem) → IsItem what.now Beside item.entry it →
-        printed out.new.items new ≡ with_item what.now name.now Beside it (printed out.old.items counts)) }
+    ensures { IfOk result (λ new. (it : EventItem) → IsEventItem what.now Beside item.entry it →
+        printed out.new.items new ≡ with_event what.now name.now Beside it (printed out.old.items counts)) }
 {
     let end = match sum(item.place, item.bytes.len() as u64) {
         Ok(end) => end,
@@ -111,8 +111,8 @@ fn push_selected(
     item: Item<'_>,
     counts: Counts,
 ) -> Result<Counts, Fault>
-    ensures { IfOk result (λ new. (it : EventItem) → IsItem what.now Selected item.entry it →
-        printed out.new.items new ≡ with_item what.now name.now Selected it (printed out.old.items counts)) }
+    ensures { IfOk result (λ new. (it : EventItem) → IsEventItem what.now Selected item.entry it →
+        printed out.new.items new ≡ with_event what.now name.now Selected it (printed out.old.items counts)) }
 {
     let end = match sum(item.place, item.bytes.len() as u64) {
         Ok(end) => end,
@@ -146,8 +146,8 @@ pub(crate) fn push_item(
     item: Item<'_>,
     counts: Counts,
 ) -> Result<Counts, Fault>
-    ensures { IfOk result (λ new. (it : EventItem) → IsItem what.now role item.entry it →
-        printed out.new.items new ≡ with_item what.now name.now role it (printed out.old.items counts)) }
+    ensures { IfOk result (λ new. (it : EventItem) → IsEventItem what.now role item.entry it →
+        printed out.new.items new ≡ with_event what.now name.now role it (printed out.old.items counts)) }
 {
     match role {
         Role::Hidden => Ok(counts),
@@ -225,7 +225,7 @@ fn push_line(
     ensures same { finder.new ≡ finder.old }
     ensures reported { IfOk result (λ new. (by : SearchesFor finder.old true) →
         printed out.new.items new
-        ≡ with_item what.now name.now role (line_item (found_by by) text.now (line_of text.now line)) (printed out.old.items counts)) }
+        ≡ with_event what.now name.now role (line_item (found_by by) text.now (line_of text.now line)) (printed out.old.items counts)) }
 {
     match role {
         Role::Hidden => return Ok(counts),
@@ -269,9 +269,9 @@ fn push_next(
     ensures within { IfOk result (λ next. next ≤ length text.now) }
     ensures known { OnOk result (KnowsNext flags.now turn.new) }
     ensures goes_on { IfOk result (λ next. (by : SearchesFor finder.old true) →
-        with_items what.now name.now (roles_left what.now flags.now turn.old)
+        with_events what.now name.now (roles_left what.now flags.now turn.old)
         (line_items what.now (found_by by) text.now (turn.old.index + 1) at) (printed out.old.items counts.old)
-        ≡ with_items what.now name.now (roles_left what.now flags.now turn.new)
+        ≡ with_events what.now name.now (roles_left what.now flags.now turn.new)
         (line_items what.now (found_by by) text.now (turn.new.index + 1) next) (printed out.new.items counts.new)) }
 {
     let index = turn.index;
@@ -306,8 +306,8 @@ fn push_all(
     ensures same { finder.new ≡ finder.old }
     ensures reported { IfOk result (λ new. (by : SearchesFor finder.old true) →
         printed out.new.items new
-        ≡ with_items what.now name.now (roles_of what.now flags.now) (line_items what.now (found_by by) text.now 1 0)
-        (printed out.old.items (counts 0 0 0))) }
+        ≡ with_events what.now name.now (roles_of what.now flags.now) (line_items what.now (found_by by) text.now 1 0)
+        (printed out.old.items (tally 0 0 0))) }
 {
     let mut counts = Counts {
         lines: 0,

@@ -2,7 +2,7 @@ use Rattle.std.proofs.Common.{◌≡◌, ◌+◌, ◌-◌, ◌≤◌, length, tr
 use Rattle.line_search.specs.Searchers.{SearchesFor, found_by}
 use Rattle.grep_core.specs.Report.{roles_of}
 use Rattle.text_report.specs.EventCourse.{KnowsNext, line_items, roles_left}
-use Rattle.text_report.specs.Events.{counts, printed, with_items}
+use Rattle.text_report.specs.Events.{tally, printed, with_events}
 use Rattle.text_report.proofs.events.push_all.Given as goal
 
 abbrev pub invariant-loop-at : goal.invariant-loop-at
@@ -11,10 +11,10 @@ invariant-loop-at l = record {
   same : l.finder ≡ l.fn.finder;
   known : KnowsNext l.flags l.turn;
   reported : (by : SearchesFor l.fn.finder true) →
-      with_items l.what l.name (roles_left l.what l.flags l.turn) (line_items l.what (found_by by) l.text (l.turn.index + 1) l.at)
+      with_events l.what l.name (roles_left l.what l.flags l.turn) (line_items l.what (found_by by) l.text (l.turn.index + 1) l.at)
       (printed l.out.items l.counts)
-      ≡ with_items l.what l.name (roles_of l.what l.flags) (line_items l.what (found_by by) l.text 1 0)
-      (printed l.fn.out.items (counts 0 0 0));
+      ≡ with_events l.what l.name (roles_of l.what l.flags) (line_items l.what (found_by by) l.text 1 0)
+      (printed l.fn.out.items (tally 0 0 0));
 }
 
 abbrev pub decreases-loop-at : goal.decreases-loop-at

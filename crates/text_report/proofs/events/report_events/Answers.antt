@@ -15,8 +15,3 @@ returns-in-Err-clause-fault g c by =
     none_written (g.W.Write.contents c.args.writer.now)
     (json_report c.args.what.now (found_by by) c.args.name.now c.args.time c.args.text.now)
 
-pub returns-in-Err-write_all-clause-fault : goal.returns-in-Err-write_all-clause-fault
-returns-in-Err-write_all-clause-fault g c by =
-    part_of (g.W.Write.contents c.args.writer.now) (g.W.Write.contents c.write_all.new.writer) c.deref.result.now
-    (json_report c.args.what.now (found_by by) c.args.name.now c.args.time c.args.text.now)
-    (c.deref.ensures.value ∙ c.in-Ok.ensures.reported by) c.in-Err-write_all.ensures.part
