@@ -1,5 +1,5 @@
 //! The JSON events of a text in memory.
-ghost use Rattle.std.specs.Prelude.{◌≡◌, ◌<◌, ◌≤◌, ◌+◌, ◌++◌, ℕ, List, [], IfErr, IfOk, None, OnOk, Some, length, map, take, true, if◌then◌else◌};
+ghost use Rattle.std.specs.Prelude.{◌≡◌, ◌<◌, ◌≤◌, ◌+◌, ◌++◌, ℕ, [], IfErr, IfOk, None, OnOk, Some, length, map, take, true, if◌then◌else◌};
 ghost use Rattle.std.specs.Io.KnownBytes.{Appends};
 ghost use Rattle.line_search.specs.LineMatchers.{span_pair};
 ghost use Rattle.line_search.specs.Searchers.{SearchesFor, found_by};
@@ -340,15 +340,15 @@ fn push_all(
     Ok(counts)
 }
 
-/// The statistics of a text of this size, of which something is printed: so many bytes.
+/// The statistics of a text of this size, of which these bytes are printed before the event at the end.
 fn stats_of(
     what: &OutputOptions<'_>,
     time: Elapsed,
     size: usize,
-    bytes: usize,
+    out: &[u8],
     counts: Counts,
 ) -> Stats
-    ensures { (out : List ℕ) → bytes ≡ length out → result ≡ full_stats what.now time size (printed out counts) }
+    ensures { result ≡ full_stats what.now time size (printed out.now counts) }
 {
     let searched = if may_select(what, counts.lines) {
         size as u64
@@ -360,7 +360,7 @@ fn stats_of(
         searches: 1,
         searches_with_match: if counts.lines > 0 { 1 } else { 0 },
         bytes_searched: searched,
-        bytes_printed: bytes as u64,
+        bytes_printed: out.len() as u64,
         matched_lines: counts.lines,
         matches: counts.matches,
     }
@@ -434,7 +434,7 @@ fn push_report(
         out.clear();
         return Ok(no_stats());
     }
-    let stats = stats_of(what, time, text.len(), out.len(), counts);
+    let stats = stats_of(what, time, text.len(), out.as_slice(), counts);
     match push_end(alloc, out, name, stats) {
         Ok(()) => Ok(stats),
         Err(_) => Err(Fault::NoMemory),
