@@ -13,7 +13,8 @@ use Rattle.regex_hir.specs.Text.{byte_before}
 use Rattle.regex_hir.specs.declared.look.Look.TheVariants.{Start, End}
 use Rattle.regex_hir.proofs.FindLemmas.{find_complete, find_sound, IsFirst-of_first_between}
 use Rattle.regex_hir.proofs.MatchesLemmas.{Matches-IsSpan}
-use Rattle.line_search.specs.Bounded.{bounded, span_counts, may_end_word, may_start_word, line_pattern, word_end, word_start, HasKeptSpan}
+use Rattle.line_search.specs.Bounded.{bounded, end_look, span_counts, may_end_line, may_end_word, may_start_line, may_start_word}
+use Rattle.line_search.specs.Bounded.{line_pattern, start_look, word_end, word_start, HasKeptSpan}
 use Rattle.line_search.specs.declared.patterns.PatternOptions.{PatternOptions}
 
 both : (a b : Bool) → a ≡ true → b ≡ true → (a && b) ≡ true
@@ -37,16 +38,33 @@ start_holds : (line : List ℕ) (i : ℕ) → i ≤ length line → holds Start 
 unfolding holds holds_between byte_before
 start_holds line i low = start_by line i (i == 0) refl low
 
-end_holds : (line : List ℕ) (j : ℕ) → j ≤ length line → holds End line j ≡ true → j ≡ length line
-unfolding holds holds_between
-end_holds line j low held = elim (cases_lt j (length line)) [
-  | inl less ↦ absurd (true≢false (sym held ∙ ap not (slice_some line j less)))
-  | inr over ↦ omega (arith, low, over)
+end_by : (line : List ℕ) (j : ℕ) (b : Bool) → (j == length line) ≡ b → j ≤ length line → not (is_some (slice_get line j)) ≡ b
+end_by line j true is low =
+    let here : j ≡ length line = eqb-true j (length line) is in
+    ap (λ (o : Option ℕ). not (is_some o)) (slice_get_past line j (omega (arith, here)))
+end_by line j false is low = elim (cases_lt j (length line)) [
+  | inl less ↦ ap not (slice_some line j less)
+  | inr over ↦ let here : j ≡ length line = omega (arith, low, over) in absurd (eqb-false j (length line) is here)
 ]
 
-holds_end : (line : List ℕ) → holds End line (length line) ≡ true
+end_holds : (line : List ℕ) (j : ℕ) → j ≤ length line → holds End line j ≡ (j == length line)
 unfolding holds holds_between
-holds_end line = ap (λ (o : Option ℕ). not (is_some o)) (slice_get_past line (length line) (omega arith))
+end_holds line j low = end_by line j (j == length line) refl low
+
+-- where lines start and end, in a text too
+line_starts : (how : PatternOptions) (line : List ℕ) (i : ℕ) → i ≤ length line → holds (start_look how) line i ≡ may_start_line how line i
+line_starts how line i low = by how.text
+  where
+    by : (text : Bool) → holds (start_look (record how { text = text })) line i ≡ may_start_line (record how { text = text }) line i
+    by true = refl
+    by false = start_holds line i low
+
+line_ends : (how : PatternOptions) (line : List ℕ) (j : ℕ) → j ≤ length line → holds (end_look how) line j ≡ may_end_line how line j
+line_ends how line j low = by how.text
+  where
+    by : (text : Bool) → holds (end_look (record how { text = text })) line j ≡ may_end_line (record how { text = text }) line j
+    by true = refl
+    by false = end_holds line j low
 
 -- ---- the ends of words: the one look tests both sides, the other that the far side is a whole character
 far_there : (far near whole : Bool) → ((not far && near) ≡ true) ⊎ ((whole && not far) ≡ true) → (not far && (near || whole)) ≡ true
@@ -126,19 +144,19 @@ module _ (re : Re) (line : List ℕ) (i j : ℕ) (low : i ≤ length line) where
   line_there how (l, first, (m, body, (n, last, e))) =
       let ends : m ≡ j = sym last.1 ∙ sym e in
       let spans : Matches line re i j = subst (λ k. Matches line re i k) ends (subst (λ k. Matches line re k m) first.1 body) in
-      let far = Matches-IsSpan line re i j spans in
-      let here : j ≡ length line =
-      end_holds line j (omega (arith, low, far.1)) (subst (λ k. holds End line k ≡ true) ends last.0) in (
-        both (i == 0) (j == length line) (sym (start_holds line i low) ∙ first.0) (eq-eqb j (length line) here),
+      let far = Matches-IsSpan line re i j spans in (
+        both (may_start_line how line i) (may_end_line how line j) (sym (line_starts how line i low) ∙ first.0)
+            (sym (line_ends how line j (omega (arith, low, far.1))) ∙ subst (λ k. holds (end_look how) line k ≡ true) ends last.0),
         spans,
       )
 
   line_here : (how : PatternOptions) → Kept (record how { lines = true }) → Matches line (bounded (record how { lines = true }) re) i j
   line_here how (kept, spans) =
-      let ends = and_parts (i == 0) (j == length line) kept in (
+      let ends = and_parts (may_start_line how line i) (may_end_line how line j) kept in
+      let far = Matches-IsSpan line re i j spans in (
         i,
-        (start_holds line i low ∙ ends.0, refl),
-        (j, spans, (j, (subst (λ k. holds End line k ≡ true) (sym (eqb-true j (length line) ends.1)) (holds_end line), refl), refl)),
+        (line_starts how line i low ∙ ends.0, refl),
+        (j, spans, (j, (line_ends how line j (omega (arith, low, far.1)) ∙ ends.1, refl), refl)),
       )
 
   words_there : (how : PatternOptions) → Matches line (bounded (record how { lines = false; words = true }) re) i j →

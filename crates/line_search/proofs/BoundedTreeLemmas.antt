@@ -18,7 +18,7 @@ use Rattle.pattern_search.specs.Searches.{StartsAsRead}
 use Rattle.pattern_search.specs.Texts.{AreReadAs}
 use Rattle.pattern_search.specs.Written.{FindsWhatIsWritten}
 use Rattle.pattern_search.proofs.ForCallers.{finds_what_is_written, same_patterns, starts_as_read}
-use Rattle.line_search.specs.Bounded.{bounded, word_end, word_start}
+use Rattle.line_search.specs.Bounded.{bounded, end_look, start_look, word_end, word_start}
 use Rattle.line_search.specs.BoundedTrees.{IsTreeOf, bounded_tree, word_end_tree, word_start_tree}
 use Rattle.line_search.specs.Joined.{joined}
 use Rattle.line_search.specs.Meant.{line_config}
@@ -64,9 +64,9 @@ bounded_ends how a x same = by how.lines how.words
   where
     by : (lines words : Bool) → SameEnds (bounded (record how { lines = lines; words = words }) a)
         (bounded_tree (record how { lines = lines; words = words }) x)
-    by true words = same_concat (re.look assertion.Start ∷ a ∷ re.look assertion.End ∷ [])
-        (tree.look (translated_look assertion.Start) ∷ x ∷ tree.look (translated_look assertion.End) ∷ [])
-        (look_ends assertion.Start, (same, (look_ends assertion.End, tt)))
+    by true words = same_concat (re.look (start_look how) ∷ a ∷ re.look (end_look how) ∷ [])
+        (tree.look (translated_look (start_look how)) ∷ x ∷ tree.look (translated_look (end_look how)) ∷ [])
+        (look_ends (start_look how), (same, (look_ends (end_look how), tt)))
     by false true = same_concat (word_start ∷ a ∷ word_end ∷ []) (word_start_tree ∷ x ∷ word_end_tree ∷ [])
         (start_ends, (same, (end_ends, tt)))
     by false false = same
@@ -76,9 +76,9 @@ bounded_spans how a x same = by how.lines how.words
   where
     by : (lines words : Bool) → SameSpans (bounded (record how { lines = lines; words = words }) a)
         (bounded_tree (record how { lines = lines; words = words }) x)
-    by true words = spans_concat (re.look assertion.Start ∷ a ∷ re.look assertion.End ∷ [])
-        (tree.look (translated_look assertion.Start) ∷ x ∷ tree.look (translated_look assertion.End) ∷ [])
-        (look_spans assertion.Start, (same, (look_spans assertion.End, tt)))
+    by true words = spans_concat (re.look (start_look how) ∷ a ∷ re.look (end_look how) ∷ [])
+        (tree.look (translated_look (start_look how)) ∷ x ∷ tree.look (translated_look (end_look how)) ∷ [])
+        (look_spans (start_look how), (same, (look_spans (end_look how), tt)))
     by false true = spans_concat (word_start ∷ a ∷ word_end ∷ []) (word_start_tree ∷ x ∷ word_end_tree ∷ [])
         (start_spans, (same, (end_spans, tt)))
     by false false = same

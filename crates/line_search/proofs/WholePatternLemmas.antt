@@ -9,11 +9,11 @@ use Rattle.regex_hir.specs.Looks.{holds}
 use Rattle.regex_hir.specs.Meaning.{alt_all}
 use Rattle.regex_hir.specs.Re.{Re, Rest, Trace, accept, alt, attempt, byte_in, cat, empty, look}
 use Rattle.regex_hir.specs.Text.{is_some_and}
-use Rattle.regex_hir.specs.declared.look.Look.TheVariants.{Start, End, WordStartUnicode, WordStartHalfUnicode}
+use Rattle.regex_hir.specs.declared.look.Look.TheVariants.{WordStartUnicode, WordStartHalfUnicode}
 use Rattle.regex_hir.proofs.AttemptLemmas.{attempt_cong}
 use Rattle.regex_syntax.specs.Same.{SameMatches}
 use Rattle.regex_syntax.proofs.SameLemmas.{HasOneWay-look, alt-fail, alt_cong, cat-fail, cat_cong, same_refl, ◌then◌}
-use Rattle.line_search.specs.Bounded.{bounded, line_pattern, word_end, word_start}
+use Rattle.line_search.specs.Bounded.{bounded, end_look, line_pattern, start_look, word_end, word_start}
 use Rattle.line_search.specs.declared.patterns.PatternOptions.{PatternOptions}
 
 -- ---- what stands before a pattern is passed in one way at most
@@ -87,7 +87,8 @@ bounded_once how res = by how.lines how.words
   where
     by : (lines words : Bool) → SameMatches (whole_pattern (record how { lines = lines; words = words }) res)
         (line_pattern (record how { lines = lines; words = words }) res)
-    by true words = all_between (look Start) (cat (look End) empty) (λ hay k l i. (HasOneWay-look Start).at hay k l i) res
+    by true words = all_between (look (start_look how)) (cat (look (end_look how)) empty)
+        (λ hay k l i. (HasOneWay-look (start_look how)).at hay k l i) res
     by false true = all_between word_start (cat word_end empty) starts_one_way res
     by false false = all_unbounded res
 

@@ -1,9 +1,11 @@
 -- The one tree of several patterns, which may count only as a whole line or as whole words.
 use Rattle.std.specs.Prelude.{◌≡◌, ℕ, List, [], ◌∷◌, if◌then◌else◌}
-use Rattle.look_core.specs.declared.look.Look.TheVariants.{Start, End, WordStartUnicode, WordStartHalfUnicode}
+use Rattle.look_core.specs.declared.look.Look.TheVariants.{WordStartUnicode, WordStartHalfUnicode}
 use Rattle.look_core.specs.declared.look.Look.TheVariants.{WordEndUnicode, WordEndHalfUnicode}
 use Rattle.hir_core.specs.Tree.{Tree, look, concat, alternation}
 use Rattle.pattern_search.specs.Texts.{AllMean}
+use Rattle.pattern_text.specs.Translated.{translated_look}
+use Rattle.line_search.specs.Bounded.{end_look, start_look}
 use Rattle.line_search.specs.Joined.{joined}
 use Rattle.line_search.specs.Meant.{line_config}
 use Rattle.line_search.specs.declared.patterns.PatternOptions.{PatternOptions}
@@ -18,7 +20,7 @@ word_end_tree = alternation (look WordEndUnicode ∷ look WordEndHalfUnicode ∷
 -- The tree of parsed patterns, with what `bounded` puts around each of them.
 abbrev pub bounded_tree : PatternOptions → Tree → Tree
 bounded_tree how x =
-    if how.lines then concat (look Start ∷ x ∷ look End ∷ [])
+    if how.lines then concat (look (translated_look (start_look how)) ∷ x ∷ look (translated_look (end_look how)) ∷ [])
     else if how.words then concat (word_start_tree ∷ x ∷ word_end_tree ∷ [])
     else x
 

@@ -4,14 +4,67 @@ ghost use Rattle.std.specs.Prelude.{◌≡◌, ◌∷◌, [], IfOk};
 ghost use Rattle.regex_hir.specs.Meaning.{meaning, cat_all, alt_all};
 ghost use Rattle.regex_hir.specs.Re.{look as assertion};
 ghost use Rattle.hir_core.specs.Tree.{look, concat, alternation};
-ghost use Rattle.line_search.specs.Bounded.{bounded};
+ghost use Rattle.line_search.specs.Bounded.{bounded, end_look, start_look};
 ghost use Rattle.line_search.specs.BoundedTrees.{bounded_tree};
+ghost use Rattle.pattern_text.specs.Translated.{translated_look};
 
 use crate::patterns::PatternOptions;
 use hir_core::Hir;
 use look_core::Look;
 use regex_hir::{Hir as Pattern, Look as Assertion};
 use std::alloc::{AllocError, Global};
+
+/// The look-around assertion at the start of what has to be a whole line.
+fn start_look(how: &PatternOptions) -> Assertion
+    ensures { result ≡ start_look how.now }
+{
+    if !how.text {
+        return Assertion::Start;
+    }
+    if how.crlf {
+        return Assertion::StartCrlf;
+    }
+    Assertion::StartLf
+}
+
+/// The look-around assertion at the end of what has to be a whole line.
+fn end_look(how: &PatternOptions) -> Assertion
+    ensures { result ≡ end_look how.now }
+{
+    if !how.text {
+        return Assertion::End;
+    }
+    if how.crlf {
+        return Assertion::EndCrlf;
+    }
+    Assertion::EndLf
+}
+
+/// The look-around assertion at the start of what has to be a whole line, for a tree.
+fn start_in_tree(how: &PatternOptions) -> Look
+    ensures { result ≡ translated_look (start_look how.now) }
+{
+    if !how.text {
+        return Look::Start;
+    }
+    if how.crlf {
+        return Look::StartCRLF;
+    }
+    Look::StartLF
+}
+
+/// The look-around assertion at the end of what has to be a whole line, for a tree.
+fn end_in_tree(how: &PatternOptions) -> Look
+    ensures { result ≡ translated_look (end_look how.now) }
+{
+    if !how.text {
+        return Look::End;
+    }
+    if how.crlf {
+        return Look::EndCRLF;
+    }
+    Look::EndLF
+}
 
 /// The alternation of two look-around assertions, as a tree.
 fn either(alloc: Global, first: Look, second: Look) -> Result<Hir, AllocError>
@@ -43,7 +96,9 @@ pub(crate) fn bounded_tree(
     ensures { IfOk result (λ x. x ≡ bounded_tree how.now tree) }
 {
     if how.lines {
-        let whole = between(alloc, Hir::look(Look::Start), tree, Hir::look(Look::End))?;
+        let start = Hir::look(start_in_tree(how));
+        let end = Hir::look(end_in_tree(how));
+        let whole = between(alloc, start, tree, end)?;
         return Ok(whole);
     }
     if how.words {
@@ -94,8 +149,8 @@ pub(crate) fn bounded_pattern(
     ensures { IfOk result (λ p. meaning p ≡ bounded how.now (meaning pattern)) }
 {
     if how.lines {
-        let start = Pattern::Look(Assertion::Start);
-        let end = Pattern::Look(Assertion::End);
+        let start = Pattern::Look(start_look(how));
+        let end = Pattern::Look(end_look(how));
         let whole = between_patterns(alloc, start, pattern, end)?;
         return Ok(whole);
     }

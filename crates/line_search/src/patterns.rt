@@ -12,19 +12,26 @@ pub struct PatternOptions {
     pub fixed: bool,
     /// Letters match in either case.
     pub ignore_case: bool,
-    /// A match is a whole line.
+    /// A match is a whole line, or with `text` it starts where a line starts and ends where one ends.
     pub lines: bool,
     /// A match neither starts nor ends inside a word. With `lines` this has no effect.
     pub words: bool,
     /// A carriage return before the line feed belongs to the end of a line.
     pub crlf: bool,
+    /// What is searched is a text of any number of lines. `^` and `$` match at the edges of each, and a match may span several lines. With
+    /// `crlf`, a carriage return, or one with a line feed, ends a line for `^`, `$` and `.`.
+    pub text: bool,
 }
 
 /// The options under which each pattern is parsed, by itself. Any bytes can match, whether they are UTF-8 or not.
 pub fn config_of(how: &PatternOptions) -> Config
     ensures { result ≡ line_config how.now }
 {
-    Config::new().utf8(false).case_insensitive(how.ignore_case)
+    Config::new()
+        .utf8(false)
+        .case_insensitive(how.ignore_case)
+        .multi_line(how.text)
+        .crlf(how.text && how.crlf)
 }
 
 /// The pattern in the syntax that is parsed. It is the pattern itself, or if that is a fixed string, a pattern that matches this string.

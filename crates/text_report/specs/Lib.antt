@@ -1,1 +1,3 @@
 pub mod LineSpans
+pub mod Touching
+pub mod TextReports

@@ -2,8 +2,13 @@
 //!
 //! A text is split at any byte: at line feeds, or at zero bytes. `specs/LineSpans.antt` defines its lines, and [`line_at`] returns the one
 //! at an offset.
+//!
+//! [`report_text`] searches a text as a whole, so that matches may span lines. `specs/TextReports.antt` defines what is printed, and
+//! `specs/Touching.antt` which lines a match touches.
 #![tactic(auto)]
 
 mod lines;
+mod reporting;
 
 pub use lines::{LineSpan, line_at};
+pub use reporting::report_text;

@@ -22,7 +22,11 @@ impl LineSpan {
         requires { IsTrue self.is_ended → self.end < 0xFFFF_FFFF_FFFF_FFFF }
         ensures { result ≡ whole_end self }
     {
-        if self.is_ended { self.end + 1 } else { self.end }
+        if self.is_ended {
+            self.end + 1
+        } else {
+            self.end
+        }
     }
 }
 

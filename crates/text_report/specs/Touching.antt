@@ -1,0 +1,43 @@
+-- Which lines of a text its matches touch, and the part of a match that is in a line.
+use Rattle.std.specs.Prelude.{ℕ, ◌+◌, ◌-◌, Bool, ◌&&◌, nat_lt, nat_le, List, length, map, nat_max, nat_min, if◌then◌else◌}
+use Rattle.std.specs.List.{filter, list_any}
+use Rattle.line_search.specs.Lines.{TextLine, searched}
+
+-- A match begins in a line that is at these offsets, without the byte that ends it: at one of its bytes, at the byte that ends it, or at its
+-- end if none does.
+abbrev pub begins_at : ℕ → ℕ → ℕ × ℕ → Bool
+begins_at start end s = nat_le start s.0 && nat_le s.0 end
+
+-- A match touches such a line: one of its bytes is a byte of the line or the byte that ends it, or it is empty and begins in the line.
+abbrev pub touches_at : ℕ → ℕ → ℕ × ℕ → Bool
+touches_at start end s = if nat_lt s.0 s.1 then nat_le s.0 end && nat_lt start s.1 else begins_at start end s
+
+-- Which matches count for such a line: those that begin in it, or those that touch it.
+abbrev pub counts_at : Bool → ℕ → ℕ → ℕ × ℕ → Bool
+counts_at begun start end s = if begun then begins_at start end s else touches_at start end s
+
+-- The part of a match that is in such a line, as offsets in the line, of which so many bytes are searched.
+abbrev pub part_at : ℕ → ℕ → ℕ → ℕ × ℕ → ℕ × ℕ
+part_at start end size s =
+    let first = nat_min (s.0 - start) (end - start) in
+    (first, nat_max first (nat_min (s.1 - start) size))
+
+-- The offset after the bytes of a line.
+abbrev pub line_end : TextLine → ℕ
+line_end line = line.place + length line.content.bytes
+
+-- Whether a match counts for a line.
+abbrev pub counts_for : Bool → TextLine → ℕ × ℕ → Bool
+counts_for begun line s = counts_at begun line.place (line_end line) s
+
+-- The part of a match that is in a line. With `crlf`, a carriage return that belongs to the end of the line is in no part.
+abbrev pub part_in : Bool → TextLine → ℕ × ℕ → ℕ × ℕ
+part_in crlf line s = part_at line.place (line_end line) (length (searched crlf line.content)) s
+
+-- Whether a line has a match of the text.
+abbrev pub has_one : Bool → List (ℕ × ℕ) → TextLine → Bool
+has_one begun found line = list_any (counts_for begun line) found
+
+-- The parts of a text's matches that are in a line.
+abbrev pub parts_in : Bool → Bool → List (ℕ × ℕ) → TextLine → List (ℕ × ℕ)
+parts_in begun crlf found line = map (part_in crlf line) (filter (counts_for begun line) found)
