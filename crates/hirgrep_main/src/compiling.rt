@@ -1,18 +1,17 @@
 //! Compiles patterns, and searches files for them.
 ghost use Rattle.std.specs.Prelude.{◌≡◌, true, Result, Ok, IfOk, map, string_bytes};
 ghost use Rattle.line_search.specs.Meant.{written};
-ghost use Rattle.grep_core.specs.Reporting.{needs_spans};
 ghost use Rattle.hirgrep_main.specs.Decisions.{selects_none};
+ghost use Rattle.hirgrep_main.specs.Readings.{prints_summary};
 ghost use Rattle.hirgrep_main.specs.Outcomes.{no_outcome, with_failure};
 ghost use Rattle.hirgrep_main.specs.Asks.{with_case};
 
 use crate::asked::Asked;
-use crate::decisions::selects_none;
+use crate::decisions::{lists_matches, prints_summary, selects_none};
 use crate::messages::report_no_finder;
 use crate::outcome::Outcome;
 use crate::searching::search_files;
 use crate::smart_case::ignores_case;
-use grep_core::needs_spans;
 use line_search::{Finder, LinePatterns, PatternOptions, SearcherError, config_of, pattern_source};
 use std::alloc::{AllocError, Global};
 use std::rt::Runtime;
@@ -46,11 +45,14 @@ fn search_by(
     asked: &Asked,
     files: Files<'_>,
 ) -> Result<Outcome, AllocError>
-    ensures { selects_none asked.now.what ≡ true → IfOk result (λ o. o ≡ no_outcome) }
+    ensures { selects_none asked.now.what ≡ true → prints_summary asked.now ≡ false → IfOk result (λ o. o ≡ no_outcome) }
 {
     let mut outcome = Outcome::new();
     if !selects_none(asked) {
         search_files(rt, finder, asked, &mut outcome, files)?;
+    }
+    if prints_summary(asked) {
+        outcome.write_summary(rt)?;
     }
     if asked.stats {
         outcome.report_stats(rt, finder);
@@ -82,7 +84,7 @@ fn search_texts(
     sought: &LinePatterns<'_>,
     files: Files<'_>,
 ) -> Result<Outcome, AllocError> {
-    match Finder::new(rt.alloc(), sought, needs_spans(&asked.what)) {
+    match Finder::new(rt.alloc(), sought, lists_matches(asked)) {
         Ok(mut finder) => {
             let outcome = search_by(rt, &mut finder, asked, files);
             drop(finder);

@@ -2,10 +2,12 @@
 ghost use Rattle.std.specs.Prelude.{◌≡◌, true, false, None};
 ghost use Rattle.hirgrep_main.specs.Decisions.{is_most, may_run_on, prints_all, prints_names_if_none, reads_found, reads_named, selects_none};
 ghost use Rattle.hirgrep_main.specs.Decisions.{shows_names};
+ghost use Rattle.hirgrep_main.specs.Readings.{lists_matches, prints_summary};
 
 use crate::asked::{Asked, Devices, Names};
 use crate::binary::prints_lines;
-use grep_core::{OutputOptions, Print};
+use crate::reading::{Reading, lists_all};
+use grep_core::{OutputOptions, Print, needs_spans};
 
 fn prints_names_if_none(print: Print) -> bool
     ensures { result ≡ prints_names_if_none print }
@@ -81,4 +83,18 @@ pub fn selects_none(asked: &Asked) -> bool
 {
     is_most(0, asked.what.most)
         && !(prints_names_if_none(asked.what.print) || prints_all(&asked.what))
+}
+
+/// Whether the finder is asked where matches are, and not only whether there are any.
+pub fn lists_matches(asked: &Asked) -> bool
+    ensures { result ≡ lists_matches asked.now }
+{
+    lists_all(asked.reading) || needs_spans(&asked.what)
+}
+
+/// Whether the sum of what was searched is printed at the end.
+pub fn prints_summary(asked: &Asked) -> bool
+    ensures { result ≡ prints_summary asked.now }
+{
+    asked.reading == Reading::Events && prints_lines(asked.what.print)
 }

@@ -28,6 +28,7 @@ mod outcome;
 mod output;
 mod path_names;
 mod patterns;
+mod reading;
 mod reporting;
 mod retrying;
 mod rule_files;
@@ -38,18 +39,21 @@ mod sizes;
 mod smart_case;
 mod task;
 mod texts;
+mod totals;
 mod type_changes;
 mod walking;
+mod whole_report;
 
 use crate::arguments::{arguments_of, report_usage};
 use crate::asked::{
     Asked, Directories, asked_of, color_of, groups_of, input_name, is_colorful, template_of,
 };
+use crate::compiling::search;
 use crate::file_types::{TYPES, list_of_types};
 use crate::messages::{report_error, report_output};
 use crate::outcome::Outcome;
 use crate::patterns::{gives_patterns, lines_of, patterns_of};
-use crate::searching::{Files, search};
+use crate::searching::Files;
 use crate::selecting_files::{Selection, selection_of};
 use crate::texts::GivenTexts;
 use crate::type_changes::{changes_types, types_changed};

@@ -1,13 +1,14 @@
 //! Opens files, and searches what they have.
 ghost use Rattle.std.specs.Prelude.{◌≡◌, ℕ, Bool, true, false, Result, Ok, IfErr, IfOk, IfSome, if◌then◌else◌};
-ghost use Rattle.line_search.specs.Searchers.{SearchesFor, found_by};
-ghost use Rattle.grep_core.specs.Reporting.{needs_spans};
+ghost use Rattle.line_search.specs.Searchers.{SearchesFor};
+ghost use Rattle.hirgrep_main.specs.Readings.{lists_matches};
 ghost use Rattle.line_search.specs.declared.fault.Fault.{Fault as TheFault};
+ghost use Rattle.json_events.specs.declared.stats.Stats.{Stats as TheStats};
 ghost use Rattle.hirgrep_main.specs.Decisions.{counted, may_run_on};
 ghost use Rattle.hirgrep_main.specs.Selecting.{selection};
 ghost use Rattle.hirgrep_main.specs.Walking.{Tries};
-ghost use Rattle.hirgrep_main.specs.Outcomes.{Continues, after_search, with_failure};
-ghost use Rattle.hirgrep_main.specs.Tasks.{count_of};
+ghost use Rattle.hirgrep_main.specs.Outcomes.{Continues, after_search, with_failure, with_totals};
+ghost use Rattle.hirgrep_main.specs.Tasks.{count_of, finding_by};
 
 use crate::columns::width_at;
 use crate::counting::Counting;
@@ -21,7 +22,7 @@ use crate::output::Output;
 use crate::task::{Task, shown_name};
 use crate::texts::separated_name;
 use crate::walking::is_output;
-use grep_core::{Headed, needs_spans};
+use grep_core::Headed;
 use line_search::Finder;
 use std::alloc::AllocError;
 use std::io::{Read, Write};
@@ -39,16 +40,20 @@ fn search_reader<R: Read + Drop, W: Write + Drop>(
     writer: W,
 )
     ensures same { finder.new ≡ finder.old }
-    ensures came { (reported : Result ℕ TheFault) × (bytes : ℕ) × (wrote : Bool)
-        × (outcome.new ≡ after_search task.entry.asked.now.what.print outcome.old bytes wrote reported)
-        × IfOk reported (λ n. (by : SearchesFor finder.old (needs_spans task.entry.asked.now.what)) →
-        IfSome (R.remaining reader) (λ text. n ≡ count_of task.entry (found_by by) text)) }
+    ensures came { (reported : Result ℕ TheFault) × (bytes : ℕ) × (wrote : Bool) × (totals : TheStats)
+        × (outcome.new ≡ after_search task.entry.asked.now.what.print (with_totals outcome.old totals) bytes wrote reported)
+        × IfOk reported (λ n. (by : SearchesFor finder.old (lists_matches task.entry.asked.now)) →
+        IfSome (R.remaining reader) (λ text. n ≡ count_of task.entry (finding_by by) text)) }
     ensures counted { outcome.new.files ≡ counted outcome.old.files 1 }
     ensures continues { Continues outcome.old outcome.new }
 {
     let mut reader = Counting::new(reader);
     let mut writer = Headed::new(rt.alloc(), Output::new(writer));
-    let reported = report_one(rt, finder, task, *outcome, name, &mut reader, &mut writer);
+    let mut totals = outcome.totals;
+    let reported = report_one(
+        rt, finder, task, *outcome, name, &mut reader, &mut writer, &mut totals,
+    );
+    outcome.totals = totals;
     outcome.keep_search(
         rt,
         task.asked,

@@ -11,9 +11,9 @@ ghost use Rattle.hirgrep_main.specs.Outcomes.{Continues, with_failure};
 use crate::asked::{Asked, Directories};
 use crate::decisions::{is_named, reads_found, reads_named};
 use crate::ignoring::IgnoreFiles;
-use crate::input::input;
 use crate::opening::{search_file, search_input};
 use crate::outcome::Outcome;
+use crate::reading::Reading;
 use crate::selecting_files::Selection;
 use crate::shown::hides_controls;
 use crate::task::{Task, shown_name};
@@ -439,7 +439,10 @@ pub fn search_files(
         output: output_file(rt),
         selection: files.selection,
         width: 0,
-        hides_controls: hides_controls(rt.stdout().is_terminal(), asked.what.zero_names),
+        hides_controls: hides_controls(
+            rt.stdout().is_terminal(),
+            asked.what.zero_names || asked.reading == Reading::Events,
+        ),
     };
     match files.names {
         [] => {

@@ -1,7 +1,7 @@
 //! The sizes that options give.
 ghost use Rattle.std.specs.Prelude.{◌≡◌, true, false, None, is_some};
 ghost use Rattle.clap.specs.Words.{found_of};
-ghost use Rattle.hirgrep_main.specs.Selecting.{gives_size, is_too_large, size_given};
+ghost use Rattle.hirgrep_main.specs.Selecting.{gives_size, is_size_given, is_too_large, size_given};
 
 use crate::shown::Shown;
 use clap::ArgMatches;
@@ -18,11 +18,11 @@ pub fn size_given(matches: &ArgMatches<'_>) -> Option<u64>
     }
 }
 
-/// Whether no size is given that can't be read. If one is, this is reported.
-pub fn gives_size(rt: &HostRuntime, matches: &ArgMatches<'_>) -> bool
-    ensures { result ≡ gives_size (found_of matches.now) }
+/// Whether the option's value, if there is one, is a size. If it isn't, this is reported.
+fn is_size(rt: &HostRuntime, matches: &ArgMatches<'_>, name: &str) -> bool
+    ensures { result ≡ is_size_given (found_of matches.now) name.now }
 {
-    let Some(text) = matches.get_str("max-filesize") else {
+    let Some(text) = matches.get_str(name) else {
         return true;
     };
     let is_size = size_of(text).is_some();
@@ -33,6 +33,13 @@ pub fn gives_size(rt: &HostRuntime, matches: &ArgMatches<'_>) -> bool
         );
     }
     is_size
+}
+
+/// Whether no size is given that can't be read. If one is, this is reported.
+pub fn gives_size(rt: &HostRuntime, matches: &ArgMatches<'_>) -> bool
+    ensures { result ≡ gives_size (found_of matches.now) }
+{
+    is_size(rt, matches, "max-filesize") && is_size(rt, matches, "max-size")
 }
 
 /// Whether a file has more bytes than a file may have.

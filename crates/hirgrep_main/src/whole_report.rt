@@ -1,0 +1,109 @@
+//! What is printed for an input that is read as a whole.
+ghost use Rattle.std.specs.Prelude.{◌≡◌, IfSome, true};
+ghost use Rattle.std.specs.Prelude.{List, ℕ};
+ghost use Rattle.line_search.specs.Searchers.{SearchesFor};
+ghost use Rattle.hirgrep_main.specs.Readings.{is_by_lines, lists_matches};
+ghost use Rattle.hirgrep_main.specs.Decisions.{is_headed};
+ghost use Rattle.hirgrep_main.specs.Tasks.{IsInputReported, body, body_count, finding_by, report_by, whole_report_by};
+
+use crate::outcome::Outcome;
+use crate::reading::{Reading, read_whole};
+use crate::reporting::is_headed;
+use crate::task::Task;
+use crate::totals::added;
+use grep_core::{Headed, OutputOptions, SeparatorState, heading_of};
+use json_events::Stats;
+use line_search::{Fault, Finder};
+use std::alloc::Global;
+use std::io::{Read, Write};
+use text_report::{report_events, report_records, report_text};
+
+/// Writes the lines of a text as JSON, and adds what was searched to the sum.
+fn report_json<W: Write>(
+    alloc: Global,
+    finder: &mut Finder<'_>,
+    what: &OutputOptions<'_>,
+    name: &[u8],
+    text: &[u8],
+    writer: &mut W,
+    totals: &mut Stats,
+) -> Result<u64, Fault> {
+    let stats = report_events(alloc, finder, what, name, text, writer)?;
+    *totals = added(*totals, stats);
+    Ok(stats.matched_lines)
+}
+
+/// Writes what is printed for a text: its records, the lines that matches touch, or its lines as JSON.
+fn report_body<W: Write>(
+    alloc: Global,
+    finder: &mut Finder<'_>,
+    reading: Reading,
+    what: &OutputOptions<'_>,
+    name: &[u8],
+    with_name: bool,
+    known: SeparatorState,
+    text: &[u8],
+    writer: &mut W,
+    totals: &mut Stats,
+) -> Result<u64, Fault> {
+    match reading {
+        Reading::Text => report_text(alloc, finder, what, name, with_name, known, text, writer),
+        Reading::Events => report_json(alloc, finder, what, name, text, writer, totals),
+        _ => report_records(alloc, finder, what, name, with_name, known, text, writer),
+    }
+}
+
+/// Writes what is printed for a text under a heading. If nothing is printed, there is no heading.
+fn report_below<W: Write>(
+    alloc: Global,
+    finder: &mut Finder<'_>,
+    task: Task<'_>,
+    what: &OutputOptions<'_>,
+    printed: bool,
+    name: &[u8],
+    text: &[u8],
+    writer: &mut W,
+    totals: &mut Stats,
+) -> Result<u64, Fault> {
+    let reading = task.asked.reading;
+    let none = SeparatorState::NonePrinted;
+    let mut body = Vec::new(alloc);
+    let lines = report_body(
+        alloc, finder, reading, what, name, false, none, text, &mut body, totals,
+    )?;
+    if body.is_empty() {
+        return Ok(lines);
+    }
+    let mut all = heading_of(alloc, what, name, task.with_name, printed)?;
+    all.extend_from_slice(&body)?;
+    match writer.write_all(&all) {
+        Ok(()) => Ok(lines),
+        Err(error) => Err(Fault::Write(error.kind())),
+    }
+}
+
+/// Reads an input as a whole, and writes what is printed for it with these options. `outcome` is that of earlier inputs, and `totals` the
+/// sum of what was printed as JSON.
+pub fn report_whole<R: Read, W: Write>(
+    alloc: Global,
+    finder: &mut Finder<'_>,
+    task: Task<'_>,
+    what: &OutputOptions<'_>,
+    outcome: Outcome,
+    name: &[u8],
+    reader: &mut R,
+    writer: &mut Headed<W>,
+    totals: &mut Stats,
+) -> Result<u64, Fault> {
+    let reading = task.asked.reading;
+    let text = read_whole(alloc, reader, task.asked.most_read)?;
+    let writer = &mut writer.writer;
+    if is_headed(task.asked.heading, what.print) {
+        return report_below(
+            alloc, finder, task, what, outcome.printed, name, &text, writer, totals,
+        );
+    }
+    report_body(
+        alloc, finder, reading, what, name, task.with_name, outcome.known(), &text, writer, totals,
+    )
+}
