@@ -79,6 +79,7 @@ plain = record {
   width = 0;
   groups = Hyphens;
   replacement = None;
+  terminator = 10;
 }
 
 abbrev beside : ℕ → ℕ → Option Context

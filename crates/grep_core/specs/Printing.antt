@@ -159,10 +159,10 @@ end_note (s ∷ shown) n = more_note (count_by (λ s. not (nat_lt s.0 n)) (s ∷
 abbrev pub preview_text : OutputOptions → Option (List ℕ) → Role → List ℕ → List (ℕ × ℕ) → List (ℕ × ℕ) → List ℕ
 preview_text w name role line marks shown =
     tab w name (end_note shown (length (front w line)))
-    ++ (line_bytes w role marks (front w line) ++ (end_note shown (length (front w line)) ++ 10 ∷ []))
+    ++ (line_bytes w role marks (front w line) ++ (end_note shown (length (front w line)) ++ w.terminator ∷ []))
 
 abbrev pub omitted_text : OutputOptions → Option (List ℕ) → Role → ℕ → List ℕ
-omitted_text w name role count = tab w name (omission role count) ++ (omission role count ++ 10 ∷ [])
+omitted_text w name role count = tab w name (omission role count) ++ (omission role count ++ w.terminator ∷ [])
 
 -- What is printed after the fields of a line that is too long.
 abbrev pub long_text : OutputOptions → Option (List ℕ) → Role → List ℕ → List (ℕ × ℕ) → List (ℕ × ℕ) → List ℕ
@@ -173,7 +173,7 @@ long_text w name role line marks shown =
 abbrev pub line_text : OutputOptions → Option (List ℕ) → Role → TextLine → List (ℕ × ℕ) → List (ℕ × ℕ) → List ℕ
 line_text w name role line marks shown =
     if is_long w line then long_text w name role line.content.bytes marks shown
-    else tab w name (trimmed w line.content.bytes) ++ (line_bytes w role marks line.content.bytes ++ 10 ∷ [])
+    else tab w name (trimmed w line.content.bytes) ++ (line_bytes w role marks line.content.bytes ++ w.terminator ∷ [])
 
 -- The column of the first match.
 abbrev pub first_column : OutputOptions → List (ℕ × ℕ) → Option ℕ
@@ -206,14 +206,14 @@ match_bytes w role text = if nat_lt 0 (length text) then coloured w.color (match
 -- What is printed after the fields of a match that is too long.
 abbrev pub long_match : OutputOptions → Option (List ℕ) → Role → List ℕ → List ℕ
 long_match w name role text =
-    if w.preview then tab w name (more_note 0) ++ (match_bytes w role (trimmed w (front w text)) ++ (more_note 0 ++ 10 ∷ []))
+    if w.preview then tab w name (more_note 0) ++ (match_bytes w role (trimmed w (front w text)) ++ (more_note 0 ++ w.terminator ∷ []))
     else omitted_text w name role 0
 
 -- The bytes of a match after its fields.
 abbrev pub match_text : OutputOptions → Option (List ℕ) → Role → List ℕ → List ℕ
 match_text w name role text =
     if exceeds w.most_bytes (length text) then long_match w name role text
-    else tab w name (trimmed w text) ++ (match_bytes w role (trimmed w text) ++ 10 ∷ [])
+    else tab w name (trimmed w text) ++ (match_bytes w role (trimmed w text) ++ w.terminator ∷ [])
 
 -- Whether a match, or what replaces it, is printed as a line of its own. An empty match isn't, but what replaces a match is, even if it is
 -- empty.

@@ -17,7 +17,7 @@ use line_search::{Fault, Finder, Reached, feed_at, line_start};
 use std::alloc::Global;
 
 /// Processes one line. The line is given without its line feed. `is_known` says whether it is known to have a match.
-pub(crate) fn report_one(
+pub fn report_one(
     alloc: Global,
     out: &mut Vec<u8>,
     finder: &mut Finder<'_>,

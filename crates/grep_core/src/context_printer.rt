@@ -30,7 +30,7 @@ pub(crate) struct Waiting {
 
 /// How far the printing of lines has come.
 #[derive(Drop)]
-pub(crate) struct ContextPrinter {
+pub struct ContextPrinter {
     pub known: SeparatorState,
     /// How many more lines are printed as context after the last selected one.
     pub left: u64,
@@ -118,7 +118,7 @@ pub(crate) fn before_of(what: &OutputOptions<'_>) -> u64
 }
 
 /// How many lines at the beginning are printed as context.
-pub(crate) fn first_of(what: &OutputOptions<'_>) -> u64
+pub fn first_of(what: &OutputOptions<'_>) -> u64
     ensures { result ≡ first_of what.now.context }
 {
     match what.context {

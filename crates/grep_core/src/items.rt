@@ -53,7 +53,7 @@ fn push_long_match(
     push_tab(out, what, name, &note)?;
     push_match_bytes(out, what, role, trimmed(what, front(what.most_bytes, text)))?;
     out.extend_from_slice(&note)?;
-    out.push(b'\n')?;
+    out.push(what.terminator)?;
     Ok(())
 }
 
@@ -75,7 +75,7 @@ fn push_match_text(
     let text = trimmed(what, text);
     push_tab(out, what, name, text)?;
     push_match_bytes(out, what, role, text)?;
-    out.push(b'\n')?;
+    out.push(what.terminator)?;
     Ok(())
 }
 

@@ -27,11 +27,15 @@ mod role;
 mod separator_state;
 mod texts;
 
+pub use blocks::report_one;
 pub use colors::Colors;
+pub use context_printer::{ContextPrinter, first_of};
 pub use heading::{Headed, report_headed};
 pub use line::Line;
 pub use looking::needs_spans;
 pub use output_options::{Context, GroupSeparator, OutputOptions, Print};
-pub use reading::report_input;
+pub use progress::{Progress, Task};
+pub use reading::{count_of, flush, is_task_over, report_input, write_end, write_out};
+pub use reporter::Reporter;
 pub use role::Role;
 pub use separator_state::SeparatorState;

@@ -83,4 +83,7 @@ pub struct OutputOptions<'a> {
     pub groups: GroupSeparator<'a>,
     /// The template by which each match is replaced in lines and matches that are printed, if there is one.
     pub replacement: Option<&'a [u8]>,
+    /// The byte that ends each line and match that is printed: a line feed, or a zero byte. Counts, names and separator lines end in a line
+    /// feed.
+    pub terminator: u8,
 }

@@ -315,7 +315,7 @@ pub(crate) fn push_omission(
     let text = omission(alloc, role, count)?;
     push_tab(out, what, name, &text)?;
     out.extend_from_slice(&text)?;
-    out.push(b'\n')?;
+    out.push(what.terminator)?;
     Ok(())
 }
 
@@ -380,11 +380,11 @@ fn push_short(
 ) -> Result<(), AllocError>
     ensures { OnOk result (out.new.items ≡ out.old.items
         ++ (tab what.now (option_map (λ n. n.now) name.entry) (trimmed what.now line.now)
-        ++ (line_bytes what.now role (map span_pair marks.now) line.now ++ 10 ∷ []))) }
+        ++ (line_bytes what.now role (map span_pair marks.now) line.now ++ what.now.terminator ∷ []))) }
 {
     push_tab(out, what, name, trimmed(what, line))?;
     push_bytes(out, what, role, line, marks)?;
-    out.push(b'\n')?;
+    out.push(what.terminator)?;
     Ok(())
 }
 
@@ -407,7 +407,7 @@ fn push_preview(
     push_tab(out, what, name, &note)?;
     push_bytes(out, what, role, front, marks)?;
     out.extend_from_slice(&note)?;
-    out.push(b'\n')?;
+    out.push(what.terminator)?;
     Ok(())
 }
 

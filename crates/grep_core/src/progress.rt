@@ -17,7 +17,7 @@ use std::alloc::Global;
 
 /// A task: an input with this name is searched, and `what` says what to print.
 #[derive(Clone, Copy)]
-pub(crate) struct Task<'a> {
+pub struct Task<'a> {
     pub what: &'a OutputOptions<'a>,
     pub name: &'a [u8],
     /// Whether the name is printed before lines.
@@ -26,7 +26,7 @@ pub(crate) struct Task<'a> {
 
 /// The number and offset of the next line, if lines are printed, and the state of the output after the lines before it.
 #[derive(Drop)]
-pub(crate) struct Progress {
+pub struct Progress {
     pub number: u64,
     pub place: u64,
     pub telling: Reporter,

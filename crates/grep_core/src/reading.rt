@@ -40,7 +40,7 @@ enum Next {
 }
 
 /// Writes all bytes. On an error, the bytes that were written are a prefix of them.
-pub(crate) fn write_out<W: Write>(writer: &mut W, out: &[u8]) -> Result<(), Fault>
+pub fn write_out<W: Write>(writer: &mut W, out: &[u8]) -> Result<(), Fault>
     ensures ok { OnOk result (Appends (W.contents writer.old) (W.contents writer.new) out.now) }
     ensures part { IfErr result (λ _. (n : ℕ) × Appends (W.contents writer.old) (W.contents writer.new) (take n out.now)) }
 {
@@ -55,7 +55,7 @@ pub(crate) fn write_out<W: Write>(writer: &mut W, out: &[u8]) -> Result<(), Faul
     Ok(())
 }
 
-fn flush<W: Write>(writer: &mut W) -> Result<(), Fault>
+pub fn flush<W: Write>(writer: &mut W) -> Result<(), Fault>
     ensures { Keeps (W.contents writer.old) (W.contents writer.new) }
 {
     match writer.flush() {
@@ -65,7 +65,7 @@ fn flush<W: Write>(writer: &mut W) -> Result<(), Fault>
 }
 
 /// Whether nothing is printed for the next lines, whatever they are.
-fn is_task_over(task: Task<'_>, progress: &Progress) -> bool
+pub fn is_task_over(task: Task<'_>, progress: &Progress) -> bool
     ensures { IsTrue result → IsOver task.entry progress.now }
 {
     is_over(task.what, &progress.telling)
@@ -364,7 +364,7 @@ fn write_lines<W: Write>(
 }
 
 /// Writes what is printed after all lines.
-fn write_end<W: Write>(
+pub fn write_end<W: Write>(
     alloc: Global,
     writer: &mut W,
     task: Task<'_>,
@@ -535,7 +535,7 @@ fn finish<W: Write>(
 }
 
 /// How many selected lines are counted after the last line.
-fn count_of(print: Print, progress: &Progress) -> u64
+pub fn count_of(print: Print, progress: &Progress) -> u64
     ensures { (t : TheTask) → (f : LineMatcher) → result ≡ counted_as print (counts_lines t f progress.now []) }
 {
     counted_as(print, progress.telling.count)

@@ -23,7 +23,7 @@ use std::alloc::{AllocError, Global};
 
 /// The state of the output after some lines.
 #[derive(Drop)]
-pub(crate) struct Reporter {
+pub struct Reporter {
     pub course: ContextPrinter,
     /// How many of them are selected.
     pub count: u64,
@@ -135,7 +135,7 @@ fn more_matches(print: Print, matches: u64, is_selected: bool, found: usize) -> 
 impl Reporter {
     /// The state before the first line, where `known` describes the lines of earlier inputs, and so many lines are printed as context
     /// before the first selected one.
-    pub(crate) fn new(alloc: Global, first: u64, known: SeparatorState) -> Reporter
+    pub fn new(alloc: Global, first: u64, known: SeparatorState) -> Reporter
         ensures starts { (w : TheOutputOptions) → first ≡ first_of w.context → (f : LineMatcher) → (name : List ℕ) → (with_name : Bool) → (lines : List TextLine) →
             still_reported w f name with_name result lines ≡ report_as w.print w f name with_name known lines (selected w f lines) }
         ensures counts { (w : TheOutputOptions) → (f : LineMatcher) → (lines : List TextLine) →

@@ -13,5 +13,10 @@ written fixed pattern = if fixed then encode_utf8_all (escaped_text (chars patte
 abbrev pub line_config : PatternOptions → Config
 line_config how = record default_config {
   utf8 = false;
-  flags = record (default_config.flags) { case_insensitive = how.ignore_case; multi_line = how.text; crlf = how.text && how.crlf };
+  flags = record (default_config.flags) {
+    case_insensitive = how.ignore_case;
+    multi_line = how.text;
+    dot_matches_new_line = how.null;
+    crlf = how.text && how.crlf;
+  };
 }

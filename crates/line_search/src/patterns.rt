@@ -21,6 +21,8 @@ pub struct PatternOptions {
     /// What is searched is a text of any number of lines. `^` and `$` match at the edges of each, and a match may span several lines. With
     /// `crlf`, a carriage return, or one with a line feed, ends a line for `^`, `$` and `.`.
     pub text: bool,
+    /// `.` matches a line feed, too, since zero bytes end lines.
+    pub null: bool,
 }
 
 /// The options under which each pattern is parsed, by itself. Any bytes can match, whether they are UTF-8 or not.
@@ -32,6 +34,7 @@ pub fn config_of(how: &PatternOptions) -> Config
         .case_insensitive(how.ignore_case)
         .multi_line(how.text)
         .crlf(how.text && how.crlf)
+        .dot_matches_new_line(how.null)
 }
 
 /// The pattern in the syntax that is parsed. It is the pattern itself, or if that is a fixed string, a pattern that matches this string.

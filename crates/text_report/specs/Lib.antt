@@ -1,3 +1,4 @@
 pub mod LineSpans
+pub mod Records
 pub mod Touching
 pub mod TextReports

@@ -12,13 +12,13 @@ split_at t (b ∷ bs) = if b == t then ended [] ∷ split_at t bs else put_first
 abbrev pub lines_from : ℕ → List ℕ → ℕ → ℕ → List TextLine
 lines_from t text number start = numbered number start (split_at t (drop start text))
 
--- The line of a text that is at these offsets.
+-- The bytes of a text at these offsets, as a line.
+abbrev pub content_of : List ℕ → LineSpan → SplitLine
+content_of text line = record { bytes = slice_range text line.start line.end; is_ended = line.is_ended }
+
+-- The same with the number and the offset of the line.
 abbrev pub line_of : List ℕ → LineSpan → TextLine
-line_of text line = record {
-  number = line.number;
-  place = line.start;
-  content = record { bytes = slice_range text line.start line.end; is_ended = line.is_ended };
-}
+line_of text line = record { number = line.number; place = line.start; content = content_of text line }
 
 -- The offset after a line and the byte that ends it.
 abbrev pub whole_end : LineSpan → ℕ
@@ -26,10 +26,11 @@ whole_end line = if line.is_ended then line.end + 1 else line.end
 
 -- A line is the first one from an offset on, and the others begin after it and the byte that ends it.
 pub record IsLineAt (t : ℕ) (text : List ℕ) (number start : ℕ) (line : LineSpan) : Type 0 where
-  pub number : line.number ≡ number
-  pub start : line.start ≡ start
+  pub numbered_so : line.number ≡ number
+  pub starts : line.start ≡ start
   pub ordered : line.start ≤ line.end
   pub forward : line.start < whole_end line
   pub inside : line.end ≤ length text
   pub within : whole_end line ≤ length text
+  pub split : split_at t (drop start text) ≡ content_of text line ∷ split_at t (drop (whole_end line) text)
   pub next : lines_from t text number start ≡ line_of text line ∷ lines_from t text (number + 1) (whole_end line)

@@ -3,12 +3,15 @@
 //! A text is split at any byte: at line feeds, or at zero bytes. `specs/LineSpans.antt` defines its lines, and [`line_at`] returns the one
 //! at an offset.
 //!
-//! [`report_text`] searches a text as a whole, so that matches may span lines. `specs/TextReports.antt` defines what is printed, and
-//! `specs/Touching.antt` which lines a match touches.
+//! [`report_records`] prints what is asked for of a text whose lines end with a given byte (`specs/Records.antt`). [`report_text`] searches
+//! a text as a whole, so that matches may span lines. `specs/TextReports.antt` defines what is printed, and `specs/Touching.antt` which
+//! lines a match touches.
 #![tactic(auto)]
 
 mod lines;
+mod records;
 mod reporting;
 
 pub use lines::{LineSpan, line_at};
+pub use records::report_records;
 pub use reporting::report_text;
