@@ -13,7 +13,7 @@ use Rattle.grep_core.specs.declared.output_options.Print.TheVariants.{Lines, Mat
 use Rattle.grep_core.specs.declared.output_options.GroupSeparator.{GroupSeparator}
 use Rattle.grep_core.specs.declared.output_options.OutputOptions.{OutputOptions}
 use Rattle.hirgrep_main.specs.Binaries.{binary_by}
-use Rattle.hirgrep_main.specs.Readings.{dot_matches_feeds, most_given, reading_of}
+use Rattle.hirgrep_main.specs.Readings.{dot_matches_feeds, most_given, reading_given}
 use Rattle.hirgrep_main.specs.SmartCase.{ignores_case}
 use Rattle.hirgrep_main.specs.declared.asked.Asked.{Asked}
 use Rattle.hirgrep_main.specs.declared.binary.Binary.{Binary}
@@ -135,8 +135,8 @@ abbrev pub template_given : Found → Option (List ℕ)
 template_given f = if is_set f (codes "json") then None else first_value f (codes "replace")
 
 -- -z: the byte that ends lines.
-abbrev pub terminator_of : Found → ℕ
-terminator_of f = if is_set f (codes "null-data") then 0 else 10
+abbrev pub terminator_given : Found → ℕ
+terminator_given f = if is_set f (codes "null-data") then 0 else 10
 
 -- --binary-files, -I, -z: what is printed of inputs with zero bytes. With the last one these end records, and every input is text.
 abbrev pub binary_given : Found → Binary
@@ -171,7 +171,7 @@ what_of f is_colorful texts groups replacement = record {
   width = 0;
   groups = groups;
   replacement = replacement;
-  terminator = terminator_of f;
+  terminator = terminator_given f;
 }
 
 -- -S, -R, -s, --stats, --max-size, and what is above
@@ -190,7 +190,7 @@ asked_of f is_colorful texts groups replacement = record {
   stats = is_set f (codes "stats");
   reports_input = is_set f (codes "report-input");
   heading = has_heading f;
-  reading = reading_of f;
+  reading = reading_given f;
   most_read = most_given f;
   path_separator = texts.path_separator;
 }

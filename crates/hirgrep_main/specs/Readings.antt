@@ -10,8 +10,8 @@ use Rattle.hirgrep_main.specs.declared.reading.Reading.{Reading}
 use Rattle.hirgrep_main.specs.declared.reading.Reading.TheVariants.{Lines, Records, Text, Events}
 
 -- -z, --multiline, --json: the first one can't be given with the others. The last one decides how what is found is printed.
-abbrev pub reading_of : Found → Reading
-reading_of f =
+abbrev pub reading_given : Found → Reading
+reading_given f =
     if is_set f (codes "json") then Events
     else if is_set f (codes "multiline") then Text
     else if is_set f (codes "null-data") then Records

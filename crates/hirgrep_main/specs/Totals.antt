@@ -20,8 +20,8 @@ no_stats = record {
 }
 
 -- The sum of two statistics.
-abbrev pub added : Stats → Stats → Stats
-added s t = record {
+abbrev pub summed : Stats → Stats → Stats
+summed s t = record {
   elapsed = no_time;
   searches = counted s.searches t.searches;
   searches_with_match = counted s.searches_with_match t.searches_with_match;

@@ -4,11 +4,11 @@ ghost use Rattle.clap.specs.Words.{first_value, found_of};
 ghost use Rattle.grep_core.specs.Printing.{group_text};
 ghost use Rattle.grep_options.specs.Options.{is_set};
 ghost use Rattle.hirgrep_main.specs.Asks.{all_lines, asked_names, asked_of, color_of, colors_of, context_by, context_of, devices_by, directories_by, how_of};
-ghost use Rattle.hirgrep_main.specs.Asks.{binary_given, group_given, has_columns, has_heading, has_numbers, most_bytes_by, print_of, template_given, terminator_of, what_of};
-ghost use Rattle.hirgrep_main.specs.Readings.{dot_matches_feeds, most_given, reading_of};
+ghost use Rattle.hirgrep_main.specs.Asks.{binary_given, group_given, has_columns, has_heading, has_numbers, most_bytes_by, print_of, template_given, terminator_given, what_of};
+ghost use Rattle.hirgrep_main.specs.Readings.{dot_matches_feeds, most_given, reading_given};
 
 use crate::binary::{Binary, binary_of};
-use crate::reading::{Reading, dot_matches_feeds, most_given, reading_of};
+use crate::reading::{Reading, dot_matches_feeds, most_given, reading_given};
 use clap::ArgMatches;
 use grep_core::{Colors, Context, GroupSeparator, OutputOptions, Print};
 use grep_options::{is_set, limit, number};
@@ -343,8 +343,8 @@ fn most_bytes_by(given: Option<u64>) -> Option<u64>
 }
 
 /// The byte that ends lines.
-fn terminator_of(matches: &ArgMatches<'_>) -> u8
-    ensures { result ≡ terminator_of (found_of matches.now) }
+fn terminator_given(matches: &ArgMatches<'_>) -> u8
+    ensures { result ≡ terminator_given (found_of matches.now) }
 {
     if is_set(matches, "null-data") {
         0
@@ -383,7 +383,7 @@ fn what_of<'a>(
         width: 0,
         groups,
         replacement,
-        terminator: terminator_of(matches),
+        terminator: terminator_given(matches),
     }
 }
 
@@ -420,7 +420,7 @@ pub fn asked_of<'a>(
         stats: is_set(matches, "stats"),
         reports_input: is_set(matches, "report-input"),
         heading: has_heading(matches),
-        reading: reading_of(matches),
+        reading: reading_given(matches),
         most_read: most_given(matches),
         path_separator: texts.path_separator,
     }

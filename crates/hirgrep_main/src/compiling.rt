@@ -10,7 +10,7 @@ use crate::asked::Asked;
 use crate::decisions::{lists_matches, prints_summary, selects_none};
 use crate::messages::report_no_finder;
 use crate::outcome::Outcome;
-use crate::searching::search_files;
+use crate::searching::{Files, search_files};
 use crate::smart_case::ignores_case;
 use line_search::{Finder, LinePatterns, PatternOptions, SearcherError, config_of, pattern_source};
 use std::alloc::{AllocError, Global};

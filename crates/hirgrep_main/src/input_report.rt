@@ -4,7 +4,7 @@ ghost use Rattle.hirgrep_main.specs.Readings.{lists_matches};
 ghost use Rattle.line_search.specs.Searchers.{SearchesFor};
 ghost use Rattle.hirgrep_main.specs.Binaries.{has_zero, searched_bytes};
 ghost use Rattle.hirgrep_main.specs.Texts.{printed_name, without_controls};
-ghost use Rattle.hirgrep_main.specs.Tasks.{IsInputReported, count_for, count_of, finding_by, report_for, report_in, whole_report_for, whole_report_in};
+ghost use Rattle.hirgrep_main.specs.Tasks.{IsInputReported, count_for, count_of, patterns_by, report_for, report_in, whole_report_for, whole_report_in};
 
 use crate::binary::{Binary, is_noticed};
 use crate::first_bytes::{Searched, has_zero, read_first};
@@ -47,11 +47,11 @@ fn report_first<R: Read, W: Write>(
     ensures same { finder.new ≡ finder.old }
     ensures reported { (by : SearchesFor finder.old (lists_matches task.entry.asked.now)) → IfSome (R.remaining reader.old) (λ text.
         IsInputReported (W.contents writer.old.writer) (W.contents writer.new.writer) result
-        (report_for task.entry.asked.now.reading task.entry (has_zero first.now) outcome (finding_by by) name.now
+        (report_for task.entry.asked.now.reading task.entry (has_zero first.now) outcome (patterns_by by) name.now
         (searched_bytes task.entry.asked.now.binary (has_zero first.now) (first.now ++ text)))
-        (whole_report_for task.entry.asked.now.reading task.entry (has_zero first.now) outcome (finding_by by) name.now
+        (whole_report_for task.entry.asked.now.reading task.entry (has_zero first.now) outcome (patterns_by by) name.now
         (searched_bytes task.entry.asked.now.binary (has_zero first.now) (first.now ++ text)))
-        (count_for task.entry.asked.now.reading task.entry (has_zero first.now) (finding_by by)
+        (count_for task.entry.asked.now.reading task.entry (has_zero first.now) (patterns_by by)
         (searched_bytes task.entry.asked.now.binary (has_zero first.now) (first.now ++ text)))) }
 {
     let zero = has_zero(first);
@@ -85,8 +85,8 @@ fn report_binary<R: Read, W: Write>(
     ensures same { finder.new ≡ finder.old }
     ensures reported { (by : SearchesFor finder.old (lists_matches task.entry.asked.now)) → IfSome (R.remaining reader.old) (λ text.
         IsInputReported (W.contents writer.old.writer) (W.contents writer.new.writer) result
-        (report_in task.entry outcome (finding_by by) name.now text) (whole_report_in task.entry outcome (finding_by by) name.now text)
-        (count_of task.entry (finding_by by) text)) }
+        (report_in task.entry outcome (patterns_by by) name.now text) (whole_report_in task.entry outcome (patterns_by by) name.now text)
+        (count_of task.entry (patterns_by by) text)) }
 {
     match read_first(rt.alloc(), reader) {
         Ok(first) => report_first(
@@ -119,8 +119,8 @@ fn report_named<R: Read, W: Write>(
     ensures same { finder.new ≡ finder.old }
     ensures reported { (by : SearchesFor finder.old (lists_matches task.entry.asked.now)) → IfSome (R.remaining reader.old) (λ text.
         IsInputReported (W.contents writer.old.writer) (W.contents writer.new.writer) result
-        (report_in task.entry outcome (finding_by by) name.now text) (whole_report_in task.entry outcome (finding_by by) name.now text)
-        (count_of task.entry (finding_by by) text)) }
+        (report_in task.entry outcome (patterns_by by) name.now text) (whole_report_in task.entry outcome (patterns_by by) name.now text)
+        (count_of task.entry (patterns_by by) text)) }
 {
     match task.asked.binary {
         Binary::AsText => report_reader(
@@ -152,9 +152,9 @@ fn report_hidden<R: Read, W: Write>(
     ensures same { finder.new ≡ finder.old }
     ensures reported { (by : SearchesFor finder.old (lists_matches task.entry.asked.now)) → IfSome (R.remaining reader.old) (λ text.
         IsInputReported (W.contents writer.old.writer) (W.contents writer.new.writer) result
-        (report_in task.entry outcome (finding_by by) (without_controls name.now) text)
-        (whole_report_in task.entry outcome (finding_by by) (without_controls name.now) text)
-        (count_of task.entry (finding_by by) text)) }
+        (report_in task.entry outcome (patterns_by by) (without_controls name.now) text)
+        (whole_report_in task.entry outcome (patterns_by by) (without_controls name.now) text)
+        (count_of task.entry (patterns_by by) text)) }
 {
     match without_controls(rt.alloc(), name) {
         Ok(shown) => report_named(rt, finder, task, outcome, shown.as_str(), reader, writer, totals),
@@ -176,9 +176,9 @@ pub fn report_one<R: Read, W: Write>(
     ensures same { finder.new ≡ finder.old }
     ensures reported { (by : SearchesFor finder.old (lists_matches task.entry.asked.now)) → IfSome (R.remaining reader.old) (λ text.
         IsInputReported (W.contents writer.old.writer) (W.contents writer.new.writer) result
-        (report_in task.entry outcome (finding_by by) (printed_name task.entry.hides_controls name.now) text)
-        (whole_report_in task.entry outcome (finding_by by) (printed_name task.entry.hides_controls name.now) text)
-        (count_of task.entry (finding_by by) text)) }
+        (report_in task.entry outcome (patterns_by by) (printed_name task.entry.hides_controls name.now) text)
+        (whole_report_in task.entry outcome (patterns_by by) (printed_name task.entry.hides_controls name.now) text)
+        (count_of task.entry (patterns_by by) text)) }
 {
     if task.hides_controls {
         return report_hidden(rt, finder, task, outcome, name, reader, writer, totals);

@@ -8,7 +8,7 @@ ghost use Rattle.hirgrep_main.specs.Decisions.{counted, may_run_on};
 ghost use Rattle.hirgrep_main.specs.Selecting.{selection};
 ghost use Rattle.hirgrep_main.specs.Walking.{Tries};
 ghost use Rattle.hirgrep_main.specs.Outcomes.{Continues, after_search, with_failure, with_totals};
-ghost use Rattle.hirgrep_main.specs.Tasks.{count_of, finding_by};
+ghost use Rattle.hirgrep_main.specs.Tasks.{count_of, patterns_by};
 
 use crate::columns::width_at;
 use crate::counting::Counting;
@@ -43,7 +43,7 @@ fn search_reader<R: Read + Drop, W: Write + Drop>(
     ensures came { (reported : Result ℕ TheFault) × (bytes : ℕ) × (wrote : Bool) × (totals : TheStats)
         × (outcome.new ≡ after_search task.entry.asked.now.what.print (with_totals outcome.old totals) bytes wrote reported)
         × IfOk reported (λ n. (by : SearchesFor finder.old (lists_matches task.entry.asked.now)) →
-        IfSome (R.remaining reader) (λ text. n ≡ count_of task.entry (finding_by by) text)) }
+        IfSome (R.remaining reader) (λ text. n ≡ count_of task.entry (patterns_by by) text)) }
     ensures counted { outcome.new.files ≡ counted outcome.old.files 1 }
     ensures continues { Continues outcome.old outcome.new }
 {

@@ -1,7 +1,7 @@
 //! How inputs are read: line by line, or as a whole.
 ghost use Rattle.std.specs.Prelude.{◌≡◌, ◌≤◌, IfOk, IfSome, length};
 ghost use Rattle.clap.specs.Words.{found_of};
-ghost use Rattle.hirgrep_main.specs.Readings.{dot_matches_feeds, is_by_lines, lists_all, most_given, reading_of};
+ghost use Rattle.hirgrep_main.specs.Readings.{dot_matches_feeds, is_by_lines, lists_all, most_given, reading_given};
 
 use clap::ArgMatches;
 use grep_options::{is_set, size_of};
@@ -27,8 +27,8 @@ pub enum Reading {
 }
 
 /// How inputs are read.
-pub fn reading_of(matches: &ArgMatches<'_>) -> Reading
-    ensures { result ≡ reading_of (found_of matches.now) }
+pub fn reading_given(matches: &ArgMatches<'_>) -> Reading
+    ensures { result ≡ reading_given (found_of matches.now) }
 {
     if is_set(matches, "json") {
         return Reading::Events;

@@ -4,7 +4,7 @@ ghost use Rattle.line_search.specs.Searchers.{SearchesFor};
 ghost use Rattle.grep_core.specs.Reporting.{needs_spans};
 ghost use Rattle.hirgrep_main.specs.Decisions.{is_headed};
 ghost use Rattle.hirgrep_main.specs.Readings.{lists_matches};
-ghost use Rattle.hirgrep_main.specs.Tasks.{IsInputReported, count_for, finding_by, options_for, options_in, report_for, whole_report_for};
+ghost use Rattle.hirgrep_main.specs.Tasks.{IsInputReported, count_for, patterns_by, options_for, options_in, report_for, whole_report_for};
 ghost use Rattle.hirgrep_main.specs.declared.reading.Reading.TheVariants.{Lines};
 
 use crate::binary::{options_by, prints_lines};
@@ -57,8 +57,8 @@ fn report_by_lines<R: Read, W: Write>(
     ensures same { finder.new ≡ finder.old }
     ensures reported { (by : SearchesFor finder.old (needs_spans task.entry.asked.now.what)) → IfSome (R.remaining reader.old) (λ bytes.
         IsInputReported (W.contents writer.old.writer) (W.contents writer.new.writer) result
-        (report_for Lines task.entry zero outcome (finding_by by) name.now bytes)
-        (whole_report_for Lines task.entry zero outcome (finding_by by) name.now bytes) (count_for Lines task.entry zero (finding_by by) bytes)) }
+        (report_for Lines task.entry zero outcome (patterns_by by) name.now bytes)
+        (whole_report_for Lines task.entry zero outcome (patterns_by by) name.now bytes) (count_for Lines task.entry zero (patterns_by by) bytes)) }
 {
     let what = options_for(task, zero);
     if is_headed(task.asked.heading, what.print) {
@@ -101,9 +101,9 @@ pub fn report_reader<R: Read, W: Write>(
     ensures same { finder.new ≡ finder.old }
     ensures reported { (by : SearchesFor finder.old (lists_matches task.entry.asked.now)) → IfSome (R.remaining reader.old) (λ bytes.
         IsInputReported (W.contents writer.old.writer) (W.contents writer.new.writer) result
-        (report_for task.entry.asked.now.reading task.entry zero outcome (finding_by by) name.now bytes)
-        (whole_report_for task.entry.asked.now.reading task.entry zero outcome (finding_by by) name.now bytes)
-        (count_for task.entry.asked.now.reading task.entry zero (finding_by by) bytes)) }
+        (report_for task.entry.asked.now.reading task.entry zero outcome (patterns_by by) name.now bytes)
+        (whole_report_for task.entry.asked.now.reading task.entry zero outcome (patterns_by by) name.now bytes)
+        (count_for task.entry.asked.now.reading task.entry zero (patterns_by by) bytes)) }
 {
     if is_by_lines(task.asked.reading) {
         return report_by_lines(alloc, finder, task, zero, outcome, name, reader, writer);

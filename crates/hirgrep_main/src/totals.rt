@@ -1,6 +1,6 @@
 //! The sum of what was searched, for the summary of `--json`.
 ghost use Rattle.std.specs.Prelude.{◌≡◌};
-ghost use Rattle.hirgrep_main.specs.Totals.{added, no_stats, no_time};
+ghost use Rattle.hirgrep_main.specs.Totals.{summed, no_stats, no_time};
 
 use json_events::{Elapsed, Stats};
 
@@ -27,8 +27,8 @@ pub fn no_stats() -> Stats
 }
 
 /// The sum of two statistics. It has no time.
-pub fn added(one: Stats, other: Stats) -> Stats
-    ensures { result ≡ added one other }
+pub fn summed(one: Stats, other: Stats) -> Stats
+    ensures { result ≡ summed one other }
 {
     Stats {
         elapsed: no_time(),

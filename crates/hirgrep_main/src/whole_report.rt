@@ -4,13 +4,13 @@ ghost use Rattle.std.specs.Prelude.{List, ℕ};
 ghost use Rattle.line_search.specs.Searchers.{SearchesFor};
 ghost use Rattle.hirgrep_main.specs.Readings.{is_by_lines, lists_matches};
 ghost use Rattle.hirgrep_main.specs.Decisions.{is_headed};
-ghost use Rattle.hirgrep_main.specs.Tasks.{IsInputReported, body, body_count, finding_by, report_by, whole_report_by};
+ghost use Rattle.hirgrep_main.specs.Tasks.{IsInputReported, body, body_count, patterns_by, report_by, whole_report_by};
 
 use crate::outcome::Outcome;
 use crate::reading::{Reading, read_whole};
 use crate::reporting::is_headed;
 use crate::task::Task;
-use crate::totals::added;
+use crate::totals::summed;
 use grep_core::{Headed, OutputOptions, SeparatorState, heading_of};
 use json_events::Stats;
 use line_search::{Fault, Finder};
@@ -29,7 +29,7 @@ fn report_json<W: Write>(
     totals: &mut Stats,
 ) -> Result<u64, Fault> {
     let stats = report_events(alloc, finder, what, name, text, writer)?;
-    *totals = added(*totals, stats);
+    *totals = summed(*totals, stats);
     Ok(stats.matched_lines)
 }
 

@@ -1,9 +1,9 @@
 #!/usr/bin/env python3
-"""What grep's --multiline prints, as a model that is compared with `rg -U` of ripgrep 13 over random patterns, texts and options: -n -b -H
+"""What --multiline prints, as a model that is compared with `rg -U` of ripgrep 13 over random patterns, texts and options: -n -b -H
 --column -c --count-matches -o -v -m -A -B -C -l -L -q --passthru --trim -M --vimgrep --heading --color -x -i -F --crlf. `report` is the definition
-of multiline.md in Python: matches are those of the whole text, and each line is printed with the parts of matches that are in it. Each
+of hirgrep in Python: matches are those of the whole text, and each line is printed with the parts of matches that are in it. Each
 difference from ripgrep has a name in QUIRKS, and stands at the line of `report` that it changes. With all of them the model prints what
-ripgrep prints. Run it with rg 13 in PATH: multiline_model.py [SEED [COUNT]]. It prints how many runs differ, and how many of them differ
+ripgrep prints. Run it with rg 13 in PATH: multiline.py [SEED [COUNT]]. It prints how many runs differ, and how many of them differ
 without each of the quirks alone, which says what each one explains."""
 import os, random, re, subprocess, sys, tempfile
 

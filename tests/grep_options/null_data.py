@@ -1,7 +1,7 @@
 #!/usr/bin/env python3
-"""What grep's -z prints, as a model that is compared with GNU grep 3.8 over random patterns, texts and options: -n -b -H -c -o -v -m -A -B -l -L -q -x -i
--F -T -Z -a --color --group-separator --no-group-separator --label. It is the definition of null_data.md in Python: that of a report without
--z, where the byte that ends records is 0 and not 10 in the places that TERMINATOR marks. Run it: null_data_model.py [SEED [COUNT]]. It prints how many
+"""What -z prints, as a model that is compared with GNU grep 3.8 over random patterns, texts and options: -n -b -H -c -o -v -m -A -B -l -L -q -x -i
+-F -T -Z -a --color --group-separator --no-group-separator --label. It is the definition of hirgrep in Python: that of a report without
+-z, where the byte that ends records is 0 and not 10 in the places that TERMINATOR marks. Run it: null_data.py [SEED [COUNT]]. It prints how many
 runs differ. Patterns are such that the leftmost match is the longest one, too."""
 import os, random, re, subprocess, sys, tempfile
 
@@ -79,6 +79,10 @@ def report(patterns, text, o):
 
 PATTERNS = [b'a', b'ab', b'a\\n', b'^a', b'b$', b'^$', b'[^a]+', b'a.b', b'a.*b', b'x*', b'[[:space:]]+', b'b+', b'^', b'$', b'a|b', b'c[^b]', b'^b.', b'.']
 
+def gnu_pattern(p): return p.decode().replace('\\n', '[[:cntrl:]]')
+
+def model_patterns(pats): return [p.replace(b'[[:space:]]', rb'\s').replace(b'\\n', rb'[\x00-\x1f]') for p in pats]
+
 def words(o):
     w = ['-z', '-E'] if 'F' not in o['how'] else ['-z']
     for k in o['how']: w.append('-' + k)
@@ -91,39 +95,44 @@ def words(o):
     w.append('--color=always' if o.get('color') else '--color=never')
     return w + ['--label=' + o['label'].decode()]
 
+def case(rnd):
+    """Patterns, a text and options."""
+    o = {'how': [k for k, p in (('x', .12), ('i', .1), ('F', .1)) if rnd.random() < p], 'label': rnd.choice([b'f', b'a b', b'x\ny'])}
+    pats = rnd.sample(PATTERNS, rnd.choice([1, 1, 1, 2]))
+    if len(pats) > 1: pats = [p for p in pats if p in (b'a', b'^a', b'b$', b'^$', b'b+', b'c[^b]')] or [b'a']
+    if 'F' in o['how']: pats = [rnd.choice([b'a', b'ab', b'b', b' '])]
+    for k in 'nbHvoTZa':
+        if rnd.random() < .2: o[k] = True
+    if rnd.random() < .3: o['color'] = True
+    r = rnd.random()
+    for k, p in (('l', .04), ('L', .08), ('q', .1), ('count', .2)):
+        if r < p: o[k] = True; break
+    if rnd.random() < .25: o['A'] = rnd.randrange(3); o['context'] = True
+    if rnd.random() < .25: o['B'] = rnd.randrange(3); o['context'] = True
+    if rnd.random() < .15: o['m'] = rnd.randrange(1, 3)  # -m 0 doesn't read at all: DIFFERENCES.md
+    if rnd.random() < .15: o['groups'] = rnd.choice([None, b'', b'=='])
+    if o.get('o') or o.get('count') or o.get('l') or o.get('L'):
+        for k in ('A', 'B', 'context', 'groups'): o.pop(k, None)
+    if o.get('m') is not None: o.pop('A', None)
+    if 'A' not in o and 'B' not in o: o.pop('context', None)
+    if o.get('color') and o.get('v'): o.pop('color')  # selected lines have no colour of their own, but for a carriage return: DIFFERENCES.md
+    text = b'\0'.join(bytes(rnd.choice(b'aabbcA \n\n') for _ in range(rnd.choice([0, 1, 2, 3, 5]))) for _ in range(rnd.randrange(1, 7)))
+    if rnd.random() < .7 and text: text += b'\0'
+    return pats, text, o
+
 def main():
     seed = int(sys.argv[1]) if len(sys.argv) > 1 else 1
     count = int(sys.argv[2]) if len(sys.argv) > 2 else 2000
     rnd = random.Random(seed); wrong = 0
     env = dict(os.environ, LC_ALL='C.UTF-8'); env.pop('GREP_COLORS', None)
     for t in range(count):
-        o = {'how': [k for k, p in (('x', .12), ('i', .1), ('F', .1)) if rnd.random() < p], 'label': rnd.choice([b'f', b'a b', b'x\ny'])}
-        pats = rnd.sample(PATTERNS, rnd.choice([1, 1, 1, 2]))
-        if len(pats) > 1: pats = [p for p in pats if p in (b'a', b'^a', b'b$', b'^$', b'b+', b'c[^b]')] or [b'a']
-        if 'F' in o['how']: pats = [rnd.choice([b'a', b'ab', b'b', b' '])]
-        for k in 'nbHvoTZa':
-            if rnd.random() < .2: o[k] = True
-        if rnd.random() < .3: o['color'] = True
-        r = rnd.random()
-        for k, p in (('l', .04), ('L', .08), ('q', .1), ('count', .2)):
-            if r < p: o[k] = True; break
-        if rnd.random() < .25: o['A'] = rnd.randrange(3); o['context'] = True
-        if rnd.random() < .25: o['B'] = rnd.randrange(3); o['context'] = True
-        if rnd.random() < .15: o['m'] = rnd.randrange(1, 3)  # -m 0 doesn't read at all: DIFFERENCES.md
-        if rnd.random() < .15: o['groups'] = rnd.choice([None, b'', b'=='])
-        if o.get('o') or o.get('count') or o.get('l') or o.get('L'):
-            for k in ('A', 'B', 'context', 'groups'): o.pop(k, None)
-        if o.get('m') is not None: o.pop('A', None)
-        if 'A' not in o and 'B' not in o: o.pop('context', None)
-        if o.get('color') and o.get('v'): o.pop('color')  # selected lines have no colour of their own, but for a carriage return: DIFFERENCES.md
-        text = b'\0'.join(bytes(rnd.choice(b'aabbcA \n\n') for _ in range(rnd.choice([0, 1, 2, 3, 5]))) for _ in range(rnd.randrange(1, 7)))
-        if rnd.random() < .7 and text: text += b'\0'
+        pats, text, o = case(rnd)
         args = ['grep'] + words(o)
-        for p in pats: args += ['-e', p.decode().replace('\\n', '[[:cntrl:]]')]
+        for p in pats: args += ['-e', gnu_pattern(p)]
         args.append('-')
         r = subprocess.run(args, input=text, capture_output=True, timeout=20, env=env)
         if r.returncode > 1: raise SystemExit((args, r.stderr))
-        mine = report([p.replace(b'[[:space:]]', rb'\s').replace(b'\\n', rb'[\x00-\x1f]') for p in pats], text, o)
+        mine = report(model_patterns(pats), text, o)
         if mine != r.stdout:
             wrong += 1
             if wrong <= 5: print('DIFFERS', args, text, '\n  gnu', r.stdout, '\n  def', mine)

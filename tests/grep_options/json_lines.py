@@ -1,15 +1,18 @@
 #!/usr/bin/env python3
-"""What grep's --json prints, as a model that is compared with `rg --json` of ripgrep 13 over random patterns, texts and options: -v -A -B -C -m -N
+"""What --json prints, as a model that is compared with `rg --json` of ripgrep 13 over random patterns, texts and options: -v -A -B -C -m -N
 --passthru -x -i -F --crlf --multiline, and those that change nothing: -n -b -H -o -r --column --trim -M --vimgrep --heading --color. `report` is the
-definition of json.md in Python. Lines and matches are those of multiline_model.py, with its names for ripgrep's differences. Elapsed times
-are left out of the comparison: whatever they are, they are printed in ripgrep's form. Run it with rg 13 in PATH: json_model.py [SEED [COUNT]].
-It prints how many runs differ.
+definition of hirgrep in Python. Lines and matches are those of multiline.py, with its names for ripgrep's differences. Elapsed times
+are left out of the comparison: whatever they are, they are printed in ripgrep's form. Run it in tests/ with rg 13 in PATH: python3 -m
+grep_options.json_lines [SEED [COUNT]]. It prints how many runs differ."""
+import base64
+import os
+import random
+import re
+import subprocess
+import sys
+import tempfile
 
-`json_model.py --events FOLDER` and `json_model.py --reports FOLDER` write cases for `rt try --cases FOLDER` in crates/json_events_main and
-crates/text_report_main of json.patch."""
-import base64, os, random, re, subprocess, sys, tempfile
-from multiline_model import QUIRKS, blocks_of, can_feed, case, expression, limited, matches, rg_output, text_lines, touches, whole, words
-import multiline_model
+from .multiline import QUIRKS, blocks_of, can_feed, case, expression, limited, matches, rg_output, text_lines, touches, whole, words
 
 # ---- strings and data, as serde_json writes them
 
@@ -195,50 +198,4 @@ def main():
         if n: print('%6d need %s: %s' % (n, k, QUIRKS[k]))
     return wrong
 
-# ---- cases for the programs that try the crates
-
-def write_case(folder, i, args, text, out):
-    for suffix, content in (('', text), ('.args', '\n'.join(map(str, args)).encode() + b'\n'), ('.stdout', out)):
-        with open(os.path.join(folder, '%03d%s' % (i, suffix)), 'wb') as f: f.write(content)
-
-PIECES = [b'a', b' ', b'\n', b'\r\n', b'"', b'\\', b'/', b'\0', b'\x01', b'\x1f', b'\x7f', b'\t', b'\x08', b'\x0c', b'\xc3\xa9', b'\xe2\x82\xac', b'\xf0\x9f\x98\x80', b'\xff', b'\xed\xa0\x80', b'\xc0\x80']
-
-def write_events(folder, rnd):
-    """Arguments: the kind, then a name and numbers."""
-    for i in range(120):
-        text = b''.join(rnd.choice(PIECES) if rnd.random() < .5 else b'x' for _ in range(rnd.randrange(30)))
-        name = rnd.choice(['f', 'a"b', '\u00e9\\', 'tab\there', 'x y'])
-        stats = tuple(rnd.randrange(10 ** rnd.randrange(1, 19)) for _ in range(6))
-        time = (rnd.choice([0, 3, 12345]), rnd.choice([0, 5, 999, 1000, 12345, 999999999])); total = (rnd.choice([0, 3]), rnd.choice([0, 7, 123456789]))
-        kind = rnd.choice(['begin', 'end', 'match', 'context', 'summary'])
-        if kind == 'begin': args, out = ['-'], begin(text)
-        elif kind == 'end': args, out = ['-', *time, *stats], end(text, stats, time)
-        elif kind == 'summary': args, out = ['-', *time, *stats, *total], summary(stats, time, total)
-        else:
-            spans = []; at = 0
-            for _ in range(rnd.randrange(4)):
-                s = rnd.randrange(at, len(text) + 1); at = rnd.randrange(s, len(text) + 1); spans.append((s, at))
-            number = rnd.choice([None, 1, 77, 10 ** 18]); place = rnd.randrange(10 ** rnd.randrange(1, 18))
-            args = [name, 0 if number is None else 1, number or 0, place] + [x for s in spans for x in s]
-            out = lines_event(kind.encode(), name.encode(), number, place, text, spans)
-        write_case(folder, i, [kind] + args, text, out)
-
-def write_reports(folder, rnd):
-    """Arguments: a name, whether lines without a match are selected, one more than the number of -m or 0, the lines of context before, after and at the
-    beginning, whether numbers are printed, whether adjacent lines are joined, and the spans of all matches."""
-    for i in range(400):
-        pats, texts, o = json_case(rnd)
-        o.pop('q', None); o['how'] = [k for k in o['how'] if k != 'crlf']; all_lines = bool(o.get('passthru'))
-        if rnd.random() < .15 and not all_lines: o['m'] = rnd.randrange(4)
-        text = texts[0][1]; rx = expression(pats, o['how'], False)
-        if o.get('U'): found = list(matches(rx, text))
-        else: found = [(line[1] + s, line[1] + e) for line in text_lines(text) for s, e in matches(rx, line[2])]
-        context = [0, 10 ** 9, 10 ** 9] if all_lines else [o.get('B', 0), o.get('A', 0), 0]
-        args = ['f', int(bool(o.get('v'))), 0 if o.get('m') is None else o['m'] + 1, *context, 0 if o.get('N') else 1, int(bool(o.get('U')))]
-        write_case(folder, i, args + [x for s in found for x in s], text, report(pats, text, o)[0])
-
-if __name__ == '__main__':
-    if len(sys.argv) == 3 and sys.argv[1] in ('--events', '--reports'):
-        os.makedirs(sys.argv[2], exist_ok=True)
-        sys.exit((write_events if sys.argv[1] == '--events' else write_reports)(sys.argv[2], random.Random(1)))
-    sys.exit(1 if main() else 0)
+if __name__ == '__main__': sys.exit(1 if main() else 0)
