@@ -1,5 +1,6 @@
 mod BlockLemmas
 mod CourseLemmas
+pub mod ForCallers
 mod HeadingLemmas
 mod HeldLemmas
 mod JoinLemmas
@@ -13,8 +14,8 @@ mod ReturnLemmas
 mod RunLemmas
 mod SeenLemmas
 mod StepLemmas
-mod TellingLemmas
+pub mod TellingLemmas
 mod TextLemmas
 mod WholeLemmas
-mod WriteLemmas
+pub mod WriteLemmas
 mod LongLineLemmas

@@ -28,14 +28,14 @@ print_map w print g b (Selected ∷ rs) (x ∷ xs) = ap (λ t. parting w b ++ (p
     (print_map w print g LastPrinted rs xs)
 print_map w print g b (Beside ∷ rs) (x ∷ xs) = ap (λ t. parting w b ++ (print Beside (g x) ++ t)) (print_map w print g LastPrinted rs xs)
 
-left_none : (most : Option ℕ) → left_of most 0 ≡ most
+pub left_none : (most : Option ℕ) → left_of most 0 ≡ most
 left_none None = refl
 left_none (Some m) = ap Some (let e : m - 0 ≡ m = omega arith in e)
 
 flags_none : (w : OutputOptions) (f : LineMatcher) (lines : List TextLine) → flags_after w f 0 lines ≡ selected w f lines
 flags_none w f lines = ap (λ most. limited most (map (is_wanted w f) lines)) (left_none w.most)
 
-none_before : (n : ℕ) → 0 + n ≡ n
+pub none_before : (n : ℕ) → 0 + n ≡ n
 none_before n = omega arith
 
 -- nothing is printed of the lines but this
@@ -157,7 +157,7 @@ line_told p w f name with_name c after n m k l sel has line own found out new li
     (flags_step w f n m sel has own lines is seen more) (sym (ap₂ item shows spans))
     ∙ goes_on (flags_after w f m lines) (map (reported_item w f) lines)
 
-one_counted : (sel : Bool) (n : ℕ) (flags : List Bool) →
+pub one_counted : (sel : Bool) (n : ℕ) (flags : List Bool) →
     (n + (if sel then 1 else 0)) + count_selected flags ≡ n + count_selected (sel ∷ flags)
 one_counted true n flags = let e : (n + 1) + count_selected flags ≡ n + suc (count_selected flags) = omega arith in e
 one_counted false n flags = let e : (n + 0) + count_selected flags ≡ n + count_selected flags = omega arith in e

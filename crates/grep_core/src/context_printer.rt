@@ -20,7 +20,7 @@ use std::collections::VecDeque;
 
 /// A buffered line. It is printed as a context line if a later line is selected before it is dropped.
 #[derive(Drop)]
-pub(crate) struct Waiting {
+pub struct Waiting {
     number: u64,
     place: u64,
     bytes: Vec<u8>,

@@ -29,13 +29,16 @@ mod texts;
 
 pub use blocks::report_one;
 pub use colors::Colors;
-pub use context_printer::{ContextPrinter, first_of};
+pub use context_printer::{ContextPrinter, Waiting, first_of};
 pub use heading::{Headed, heading_of, report_headed};
 pub use line::Line;
-pub use looking::needs_spans;
+pub use looking::{needs_spans, searched};
 pub use output_options::{Context, GroupSeparator, OutputOptions, Print};
 pub use progress::{Progress, Task};
 pub use reading::{count_of, flush, is_task_over, report_input, write_end, write_out};
-pub use reporter::Reporter;
+pub use reporter::{
+    Reporter, counted_as, counts_matches, is_selected, may_select, prints_lines, report_end,
+    report_flagged,
+};
 pub use role::Role;
 pub use separator_state::SeparatorState;

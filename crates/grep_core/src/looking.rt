@@ -76,7 +76,7 @@ fn has_match(
 
 /// The bytes of a line against which patterns are matched: the line without its line feed and, with `crlf`, without one carriage return
 /// right before that.
-pub(crate) fn searched(crlf: bool, line: &[u8], is_ended: bool) -> &[u8]
+pub fn searched(crlf: bool, line: &[u8], is_ended: bool) -> &[u8]
     ensures { result.now ≡ searched crlf (record { bytes = line.now; is_ended = is_ended }) }
 {
     if !crlf || !is_ended {

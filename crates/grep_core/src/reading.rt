@@ -55,6 +55,7 @@ pub fn write_out<W: Write>(writer: &mut W, out: &[u8]) -> Result<(), Fault>
     Ok(())
 }
 
+/// Flushes the writer.
 pub fn flush<W: Write>(writer: &mut W) -> Result<(), Fault>
     ensures { Keeps (W.contents writer.old) (W.contents writer.new) }
 {

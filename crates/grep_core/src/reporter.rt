@@ -1,13 +1,15 @@
 //! The output for an input, line by line.
 ghost use Rattle.std.specs.Prelude.{◌≡◌, ◌++◌, ◌∷◌, [], ℕ, ◌+◌, Bool, List, Option, OnOk, IfOk, IsTrue, decimal, map, nat_lt, not, ◌&&◌};
 ghost use Rattle.std.specs.Prelude.{length, option_map, if◌then◌else◌};
-ghost use Rattle.grep_core.specs.ContextPrinting.{Item, Waits, item};
+ghost use Rattle.grep_core.specs.ContextPrinting.{Item, Waits, item, print_item, still};
 ghost use Rattle.line_search.specs.Lines.{TextLine};
 ghost use Rattle.line_search.specs.LineMatchers.{span_pair, LineMatcher};
 ghost use Rattle.grep_core.specs.Printing.{text_line};
-ghost use Rattle.grep_core.specs.Report.{first_of, report_as, selected, count_line, name_line, counted_as, shown_line, shown_spans};
+ghost use Rattle.grep_core.specs.Report.{first_of, print_lines, report_as, roles_of, selected, count_line, name_line, counted_as};
+ghost use Rattle.grep_core.specs.Report.{shown_line, shown_spans};
 ghost use Rattle.grep_core.specs.Selecting.{count_selected};
-ghost use Rattle.grep_core.specs.Reporting.{shown, added, added_matches, counts_matches, prints_lines, reported_lines, may_select, still_reported, count_in_all};
+ghost use Rattle.grep_core.specs.Reporting.{shown, added, added_matches, counts_matches, number_of, prints_lines, reported_lines, may_select};
+ghost use Rattle.grep_core.specs.Reporting.{still_reported, count_in_all};
 ghost use Rattle.grep_core.specs.declared.output_options.OutputOptions.{OutputOptions as TheOutputOptions};
 
 use crate::colors::{Part, push_marked};
@@ -39,7 +41,7 @@ pub(crate) fn shown(name: &[u8], with_name: bool) -> Option<&[u8]>
 }
 
 /// Whether the output consists of lines or of the matches in them.
-pub(crate) fn prints_lines(print: Print) -> bool
+pub fn prints_lines(print: Print) -> bool
     ensures { result ≡ prints_lines print }
 {
     match print {
@@ -50,7 +52,7 @@ pub(crate) fn prints_lines(print: Print) -> bool
 }
 
 /// Whether one more line may be selected, after this many.
-pub(crate) fn may_select(what: &OutputOptions<'_>, count: u64) -> bool
+pub fn may_select(what: &OutputOptions<'_>, count: u64) -> bool
     ensures { result ≡ may_select what.now.most count }
 {
     match what.most {
@@ -67,7 +69,7 @@ fn is_wanted(what: &OutputOptions<'_>, has: bool) -> bool
 }
 
 /// Whether a line is selected, after this many selected ones.
-fn is_selected(what: &OutputOptions<'_>, count: u64, has: bool) -> bool
+pub fn is_selected(what: &OutputOptions<'_>, count: u64, has: bool) -> bool
     ensures { result ≡ ((if what.now.invert then not has else has) && may_select what.now.most count) }
 {
     is_wanted(what, has) && may_select(what, count)
@@ -112,7 +114,7 @@ pub(crate) fn count_more(count: u64, is_selected: bool) -> Result<u64, Fault>
 }
 
 /// Whether matches are counted, and not lines.
-fn counts_matches(print: Print) -> bool
+pub fn counts_matches(print: Print) -> bool
     ensures { result ≡ counts_matches print }
 {
     match print {
@@ -136,6 +138,10 @@ impl Reporter {
     /// The state before the first line, where `known` describes the lines of earlier inputs, and so many lines are printed as context
     /// before the first selected one.
     pub fn new(alloc: Global, first: u64, known: SeparatorState) -> Reporter
+        ensures count { result.count ≡ 0 }
+        ensures matches { result.matches ≡ 0 }
+        ensures prints { (w : TheOutputOptions) → first ≡ first_of w.context → (name : Option (List ℕ)) → (flags : List Bool) → (items : List Item) →
+            still w name result.course flags items ≡ print_lines w (print_item w name) known (roles_of w flags) items }
         ensures starts { (w : TheOutputOptions) → first ≡ first_of w.context → (f : LineMatcher) → (name : List ℕ) → (with_name : Bool) → (lines : List TextLine) →
             still_reported w f name with_name result lines ≡ report_as w.print w f name with_name known lines (selected w f lines) }
         ensures counts { (w : TheOutputOptions) → (f : LineMatcher) → (lines : List TextLine) →
@@ -150,9 +156,45 @@ impl Reporter {
     }
 }
 
+/// Processes one line, which is selected or not, with the matches that are shown in it.
+pub fn report_flagged(
+    alloc: Global,
+    out: &mut Vec<u8>,
+    what: &OutputOptions<'_>,
+    name: &[u8],
+    with_name: bool,
+    telling: &mut Reporter,
+    line: Line<'_>,
+    is_selected: bool,
+    found: &[Span],
+) -> Result<(), Fault>
+    requires { Waits what.now telling.old.course }
+    ensures goes_on { OnOk result ((flags : List Bool) (items : List Item) →
+        out.old.items ++ reported_lines what.now.print what.now name.now with_name telling.old.course (number_of what.now.print telling.old)
+        (is_selected ∷ flags) (item (text_line line.entry) (map span_pair found.now) ∷ items)
+        ≡ out.new.items ++ reported_lines what.now.print what.now name.now with_name telling.new.course
+        (number_of what.now.print telling.new) flags items) }
+    ensures count { OnOk result (telling.new.count ≡ telling.old.count + (if is_selected then 1 else 0)) }
+    ensures waits { OnOk result (Waits what.now telling.new.course) }
+{
+    report_by_flags(
+        alloc,
+        out,
+        what,
+        shown(name, with_name),
+        &mut telling.course,
+        line,
+        is_selected,
+        found,
+    )?;
+    telling.count = count_more(telling.count, is_selected)?;
+    telling.matches = more_matches(what.print, telling.matches, is_selected, found.len())?;
+    Ok(())
+}
+
 /// Processes one line, given as it is shown, with whether it has a match, and its matches or what replaces them, if the output depends on
 /// these.
-pub(crate) fn report_line(
+pub fn report_line(
     alloc: Global,
     out: &mut Vec<u8>,
     what: &OutputOptions<'_>,
@@ -173,18 +215,17 @@ pub(crate) fn report_line(
     ensures waits { OnOk result (Waits what.now telling.new.course) }
 {
     let is_selected = is_selected(what, telling.count, has);
-    report_by_flags(
+    report_flagged(
         alloc,
         out,
         what,
-        shown(name, with_name),
-        &mut telling.course,
+        name,
+        with_name,
+        telling,
         line,
         is_selected,
         found,
     )?;
-    telling.count = count_more(telling.count, is_selected)?;
-    telling.matches = more_matches(what.print, telling.matches, is_selected, found.len())?;
     Ok(())
 }
 
@@ -229,7 +270,7 @@ pub(crate) fn push_name(
 }
 
 /// Appends what is printed after the last line.
-pub(crate) fn report_end(
+pub fn report_end(
     alloc: Global,
     out: &mut Vec<u8>,
     what: &OutputOptions<'_>,
@@ -267,7 +308,7 @@ fn one_of(count: u64) -> u64
 }
 
 /// The number that is counted for this many selected lines. It is at most 1 if all that is asked for is whether there is one.
-pub(crate) fn counted_as(print: Print, count: u64) -> u64
+pub fn counted_as(print: Print, count: u64) -> u64
     ensures { result ≡ counted_as print count }
 {
     match print {

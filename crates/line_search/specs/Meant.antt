@@ -15,8 +15,8 @@ line_config how = record default_config {
   utf8 = false;
   flags = record (default_config.flags) {
     case_insensitive = how.ignore_case;
-    multi_line = how.text;
     dot_matches_new_line = how.null;
+    multi_line = how.text;
     crlf = how.text && how.crlf;
   };
 }

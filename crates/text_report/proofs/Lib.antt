@@ -1,1 +1,4 @@
+mod EventLemmas
 mod LineLemmas
+mod OrderLemmas
+mod TouchingLemmas

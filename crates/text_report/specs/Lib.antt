@@ -1,4 +1,7 @@
 pub mod LineSpans
 pub mod Records
-pub mod Touching
+pub mod TextProgress
 pub mod TextReports
+pub mod Touching
+pub mod Events
+pub mod EventCourse

@@ -12,7 +12,7 @@ use Rattle.grep_core.specs.declared.output_options.OutputOptions.{OutputOptions}
 use Rattle.grep_core.specs.declared.output_options.Print.{Print}
 use Rattle.grep_core.specs.declared.output_options.Print.TheVariants.{Lines, Matches, Count, CountMatches, NameIfAny, NameIfNone, Nothing}
 use Rattle.grep_core.specs.declared.separator_state.SeparatorState.{SeparatorState}
-use Rattle.text_report.specs.Touching.{has_one, parts_in}
+use Rattle.text_report.specs.Touching.{has_match_of, parts_in}
 
 -- If a line is printed for each of its matches, these are the matches that begin in it. A line in which none does isn't selected.
 abbrev pub by_starts : OutputOptions → Bool
@@ -20,15 +20,19 @@ by_starts w = w.each_match && prints_lines w.print && not w.invert
 
 -- Whether a line is selected, unless enough are: some match touches it, or with `invert` none does.
 abbrev pub is_wanted_in : OutputOptions → List (ℕ × ℕ) → TextLine → Bool
-is_wanted_in w found line = if w.invert then not (has_one (by_starts w) found line) else has_one (by_starts w) found line
+is_wanted_in w found line = if w.invert then not (has_match_of (by_starts w) found line) else has_match_of (by_starts w) found line
 
 -- For each line, whether it is selected.
 abbrev pub selected_in : OutputOptions → List (ℕ × ℕ) → List TextLine → List Bool
 selected_in w found lines = limited w.most (map (is_wanted_in w found) lines)
 
--- A line and the parts of matches that are shown in it. If matches are counted, each counts for the line in which it begins.
+-- Whether the matches of a line are those that begin in it, and not all that touch it. If matches are counted, each counts for one line.
+abbrev pub counts_begun : OutputOptions → Bool
+counts_begun w = by_starts w || counts_matches w.print
+
+-- A line and the parts of matches that are shown in it.
 abbrev pub item_of : OutputOptions → Bool → List (ℕ × ℕ) → TextLine → Item
-item_of w crlf found line = item line (parts_in (by_starts w || counts_matches w.print) crlf found line)
+item_of w crlf found line = item line (parts_in (counts_begun w) crlf found line)
 
 -- What is printed for lines with their matches, of which these are selected.
 abbrev pub report_items : Print → OutputOptions → List ℕ → Bool → SeparatorState → List Bool → List Item → List ℕ
@@ -42,15 +46,18 @@ report_items NameIfAny w name with_name known wanted items = if nat_lt 0 (count_
 report_items NameIfNone w name with_name known wanted items = if nat_lt 0 (count_selected wanted) then [] else name_line w name
 report_items Nothing w name with_name known wanted items = []
 
--- What is printed for lines of a text that has these matches.
-abbrev pub report_found : OutputOptions → Bool → List ℕ → Bool → SeparatorState → List (ℕ × ℕ) → List TextLine → List ℕ
-report_found w crlf name with_name known found lines =
-    report_items w.print w name with_name known (selected_in w found lines) (map (item_of w crlf found) lines)
+-- What is printed for a text that has these matches.
+abbrev pub report_found : OutputOptions → Bool → List ℕ → Bool → SeparatorState → List (ℕ × ℕ) → List ℕ → List ℕ
+report_found w crlf name with_name known found text =
+    report_items w.print w name with_name known (selected_in w found (text_lines text)) (map (item_of w crlf found) (text_lines text))
+
+-- How many lines of a text are selected.
+abbrev pub selected_in_found : OutputOptions → List (ℕ × ℕ) → List ℕ → ℕ
+selected_in_found w found text = count_selected (selected_in w found (text_lines text))
 
 -- What is printed for a text. Its matches are those of the whole text, from left to right.
 abbrev pub report_text : OutputOptions → PatternOptions → List Re → List ℕ → Bool → SeparatorState → List ℕ → List ℕ
-report_text w how res name with_name known text = report_found w how.crlf name with_name known (spans_in how res text) (text_lines text)
+report_text w how res name with_name known text = report_found w how.crlf name with_name known (spans_in how res text) text
 
--- How many lines of a text are selected.
 abbrev pub selected_in_text : OutputOptions → PatternOptions → List Re → List ℕ → ℕ
-selected_in_text w how res text = count_selected (selected_in w (spans_in how res text) (text_lines text))
+selected_in_text w how res text = selected_in_found w (spans_in how res text) text

@@ -12,8 +12,8 @@ ghost use Rattle.text_report.specs.Records.{WritesBeginning, records_left, repor
 
 use crate::lines::line_at;
 use grep_core::{
-    OutputOptions, Progress, Reporter, SeparatorState, Task, count_of, first_of, flush, is_task_over,
-    report_one, write_end, write_out,
+    OutputOptions, Progress, Reporter, SeparatorState, Task, count_of, first_of, flush,
+    is_task_over, report_one, write_end, write_out,
 };
 use line_search::{Fault, Finder};
 use std::alloc::Global;
