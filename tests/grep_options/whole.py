@@ -78,6 +78,7 @@ REJECTED = [
     ("-z", "--multiline", "ab"),
     ("-z", "--json", "ab"),
     ("--multiline", "--replace=x", "ab"),
+    ("--json", "--multiline", "ab"),
     ("--json", "-c", "ab"),
     ("--json", "--count-matches", "ab"),
     ("--json", "-l", "ab"),
@@ -143,12 +144,14 @@ def compare_multiline(program, place, run, tell, rng):
 
 def compare_json(program, place, run, tell, rng):
     pats, texts, o = json_lines.json_case(rng)
+    while o.get("U"):
+        pats, texts, o = json_lines.json_case(rng)
     texts = [(name, text) for name, text in texts if json_lines.is_utf8(name)] or [(b"f", texts[0][1])]
     for name, text in texts:
         with open(os.path.join(place.encode(), name), "wb") as file:
             file.write(text)
     words = ["--json", *("--crlf" if it == "crlf" else f"-{it}" for it in o["how"])]
-    words += [word for name, word in (("U", "--multiline"), ("v", "-v"), ("passthru", "--passthru"), ("N", "-N"), ("q", "-q")) if o.get(name)]
+    words += [word for name, word in (("v", "-v"), ("passthru", "--passthru"), ("N", "-N"), ("q", "-q")) if o.get(name)]
     words += [it for it in o["rest"] if it != "-rX"]
     words += [it for name in "mAB" if o.get(name) is not None for it in (f"-{name}", str(o[name]))]
     words += [it for p in pats for it in ("-e", p.decode())]

@@ -357,7 +357,8 @@ text_options =
 abbrev pub json_option : OptionRow
 json_option = record (flag (codes "json") []) {
   turns_off = codes "no-json" ∷ [];
-  excludes = codes "count" ∷ codes "count-matches" ∷ codes "files" ∷ codes "files-with-matches" ∷ codes "files-without-match" ∷ [];
+  excludes = codes "count" ∷ codes "count-matches" ∷ codes "files" ∷ codes "files-with-matches" ∷ codes "files-without-match"
+      ∷ codes "multiline" ∷ [];
 }
 
 -- JSON instead of lines. Of these two the later one takes effect.

@@ -7,7 +7,7 @@ use Rattle.grep_core.specs.declared.separator_state.SeparatorState.TheVariants.{
 use Rattle.grep_core.specs.declared.output_options.Print.{Print}
 use Rattle.hirgrep_main.specs.Decisions.{counted, prints_nothing}
 use Rattle.json_events.specs.declared.stats.Stats.{Stats}
-use Rattle.hirgrep_main.specs.Totals.{no_stats}
+use Rattle.text_report.specs.Events.{no_stats}
 use Rattle.hirgrep_main.specs.declared.outcome.Outcome.{Outcome}
 
 -- The outcome before the first file.

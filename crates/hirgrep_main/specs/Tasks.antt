@@ -15,7 +15,7 @@ use Rattle.line_search.specs.declared.patterns.PatternOptions.{PatternOptions}
 use Rattle.grep_core.specs.Report.{counted_as, report, selected_count}
 use Rattle.text_report.specs.Records.{report_records, selected_records}
 use Rattle.text_report.specs.TextReports.{report_text, selected_in_text}
-use Rattle.text_report.specs.EventReports.{events_stats, report_events}
+use Rattle.text_report.specs.Events.{json_report, json_stats}
 use Rattle.hirgrep_main.specs.Binaries.{is_binary, options_by, searched_bytes}
 use Rattle.hirgrep_main.specs.Decisions.{is_headed}
 use Rattle.hirgrep_main.specs.Outcomes.{known_of}
@@ -51,13 +51,13 @@ abbrev pub body : Reading → OutputOptions → ReadPatterns → List ℕ → Bo
 body Lines w m name with_name known bytes = report w (matcher m) name with_name known bytes
 body Records w m name with_name known bytes = report_records w (matcher m) name with_name known bytes
 body Text w m name with_name known bytes = report_text w m.how m.patterns name with_name known bytes
-body Events w m name with_name known bytes = report_events w m.how m.patterns no_time name bytes
+body Events w m name with_name known bytes = json_report w (matcher m) name no_time bytes
 
-abbrev pub body_count : Reading → OutputOptions → ReadPatterns → List ℕ → ℕ
-body_count Lines w m bytes = counted_as w.print (selected_count w (matcher m) bytes)
-body_count Records w m bytes = counted_as w.print (selected_records w (matcher m) bytes)
-body_count Text w m bytes = counted_as w.print (selected_in_text w m.how m.patterns bytes)
-body_count Events w m bytes = (events_stats w m.how m.patterns no_time bytes).matched_lines
+abbrev pub body_count : Reading → OutputOptions → ReadPatterns → List ℕ → List ℕ → ℕ
+body_count Lines w m name bytes = counted_as w.print (selected_count w (matcher m) bytes)
+body_count Records w m name bytes = counted_as w.print (selected_records w (matcher m) bytes)
+body_count Text w m name bytes = counted_as w.print (selected_in_text w m.how m.patterns bytes)
+body_count Events w m name bytes = (json_stats w (matcher m) name no_time bytes).matched_lines
 
 -- What is printed for an input with this name and these bytes, after inputs with this outcome: what is printed for its bytes, under a heading
 -- if there is one.
@@ -81,8 +81,8 @@ report_for r t zero o m name bytes = report_by r (has_heading_for t zero) t (opt
 abbrev pub whole_report_for : Reading → Task → Bool → Outcome → ReadPatterns → List ℕ → List ℕ → List ℕ
 whole_report_for r t zero o m name bytes = whole_report_by r (has_heading_for t zero) t (options_for t zero) o m name bytes
 
-abbrev pub count_for : Reading → Task → Bool → ReadPatterns → List ℕ → ℕ
-count_for r t zero m bytes = body_count r (options_for t zero) m bytes
+abbrev pub count_for : Reading → Task → Bool → ReadPatterns → List ℕ → List ℕ → ℕ
+count_for r t zero m name bytes = body_count r (options_for t zero) m name bytes
 
 -- What is printed for an input of these bytes, what a beginning is printed of if that fails, and how many lines are counted.
 abbrev pub report_in : Task → Outcome → ReadPatterns → List ℕ → List ℕ → List ℕ
@@ -93,8 +93,8 @@ abbrev pub whole_report_in : Task → Outcome → ReadPatterns → List ℕ → 
 whole_report_in t o m name text =
     whole_report_for t.asked.now.reading t (is_binary text) o m name (searched_bytes t.asked.now.binary (is_binary text) text)
 
-abbrev pub count_of : Task → ReadPatterns → List ℕ → ℕ
-count_of t m text = count_for t.asked.now.reading t (is_binary text) m (searched_bytes t.asked.now.binary (is_binary text) text)
+abbrev pub count_of : Task → ReadPatterns → List ℕ → List ℕ → ℕ
+count_of t m name text = count_for t.asked.now.reading t (is_binary text) m name (searched_bytes t.asked.now.binary (is_binary text) text)
 
 -- What the search of an input wrote and returned: its report, and how many lines are counted. After an error, a beginning of the whole report
 -- was written.

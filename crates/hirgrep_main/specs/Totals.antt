@@ -7,18 +7,6 @@ use Rattle.hirgrep_main.specs.Decisions.{counted}
 abbrev pub no_time : Elapsed
 no_time = record { secs = 0; nanos = 0 }
 
--- What was searched before the first input.
-abbrev pub no_stats : Stats
-no_stats = record {
-  elapsed = no_time;
-  searches = 0;
-  searches_with_match = 0;
-  bytes_searched = 0;
-  bytes_printed = 0;
-  matched_lines = 0;
-  matches = 0;
-}
-
 -- The sum of two statistics.
 abbrev pub summed : Stats → Stats → Stats
 summed s t = record {

@@ -51,7 +51,7 @@ fn report_first<R: Read, W: Write>(
         (searched_bytes task.entry.asked.now.binary (has_zero first.now) (first.now ++ text)))
         (whole_report_for task.entry.asked.now.reading task.entry (has_zero first.now) outcome (patterns_by by) name.now
         (searched_bytes task.entry.asked.now.binary (has_zero first.now) (first.now ++ text)))
-        (count_for task.entry.asked.now.reading task.entry (has_zero first.now) (patterns_by by)
+        (count_for task.entry.asked.now.reading task.entry (has_zero first.now) (patterns_by by) name.now
         (searched_bytes task.entry.asked.now.binary (has_zero first.now) (first.now ++ text)))) }
 {
     let zero = has_zero(first);
@@ -86,7 +86,7 @@ fn report_binary<R: Read, W: Write>(
     ensures reported { (by : SearchesFor finder.old (lists_matches task.entry.asked.now)) → IfSome (R.remaining reader.old) (λ text.
         IsInputReported (W.contents writer.old.writer) (W.contents writer.new.writer) result
         (report_in task.entry outcome (patterns_by by) name.now text) (whole_report_in task.entry outcome (patterns_by by) name.now text)
-        (count_of task.entry (patterns_by by) text)) }
+        (count_of task.entry (patterns_by by) name.now text)) }
 {
     match read_first(rt.alloc(), reader) {
         Ok(first) => report_first(
@@ -120,7 +120,7 @@ fn report_named<R: Read, W: Write>(
     ensures reported { (by : SearchesFor finder.old (lists_matches task.entry.asked.now)) → IfSome (R.remaining reader.old) (λ text.
         IsInputReported (W.contents writer.old.writer) (W.contents writer.new.writer) result
         (report_in task.entry outcome (patterns_by by) name.now text) (whole_report_in task.entry outcome (patterns_by by) name.now text)
-        (count_of task.entry (patterns_by by) text)) }
+        (count_of task.entry (patterns_by by) name.now text)) }
 {
     match task.asked.binary {
         Binary::AsText => report_reader(
@@ -154,10 +154,19 @@ fn report_hidden<R: Read, W: Write>(
         IsInputReported (W.contents writer.old.writer) (W.contents writer.new.writer) result
         (report_in task.entry outcome (patterns_by by) (without_controls name.now) text)
         (whole_report_in task.entry outcome (patterns_by by) (without_controls name.now) text)
-        (count_of task.entry (patterns_by by) text)) }
+        (count_of task.entry (patterns_by by) (without_controls name.now) text)) }
 {
     match without_controls(rt.alloc(), name) {
-        Ok(shown) => report_named(rt, finder, task, outcome, shown.as_str(), reader, writer, totals),
+        Ok(shown) => report_named(
+            rt,
+            finder,
+            task,
+            outcome,
+            shown.as_str(),
+            reader,
+            writer,
+            totals,
+        ),
         Err(_) => Err(Fault::NoMemory),
     }
 }
@@ -178,7 +187,7 @@ pub fn report_one<R: Read, W: Write>(
         IsInputReported (W.contents writer.old.writer) (W.contents writer.new.writer) result
         (report_in task.entry outcome (patterns_by by) (printed_name task.entry.hides_controls name.now) text)
         (whole_report_in task.entry outcome (patterns_by by) (printed_name task.entry.hides_controls name.now) text)
-        (count_of task.entry (patterns_by by) text)) }
+        (count_of task.entry (patterns_by by) (printed_name task.entry.hides_controls name.now) text)) }
 {
     if task.hides_controls {
         return report_hidden(rt, finder, task, outcome, name, reader, writer, totals);

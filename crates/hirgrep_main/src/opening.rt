@@ -9,6 +9,7 @@ ghost use Rattle.hirgrep_main.specs.Selecting.{selection};
 ghost use Rattle.hirgrep_main.specs.Walking.{Tries};
 ghost use Rattle.hirgrep_main.specs.Outcomes.{Continues, after_search, with_failure, with_totals};
 ghost use Rattle.hirgrep_main.specs.Tasks.{count_of, patterns_by};
+ghost use Rattle.hirgrep_main.specs.Texts.{printed_name};
 
 use crate::columns::width_at;
 use crate::counting::Counting;
@@ -43,7 +44,7 @@ fn search_reader<R: Read + Drop, W: Write + Drop>(
     ensures came { (reported : Result ℕ TheFault) × (bytes : ℕ) × (wrote : Bool) × (totals : TheStats)
         × (outcome.new ≡ after_search task.entry.asked.now.what.print (with_totals outcome.old totals) bytes wrote reported)
         × IfOk reported (λ n. (by : SearchesFor finder.old (lists_matches task.entry.asked.now)) →
-        IfSome (R.remaining reader) (λ text. n ≡ count_of task.entry (patterns_by by) text)) }
+        IfSome (R.remaining reader) (λ text. n ≡ count_of task.entry (patterns_by by) (printed_name task.entry.hides_controls name.now) text)) }
     ensures counted { outcome.new.files ≡ counted outcome.old.files 1 }
     ensures continues { Continues outcome.old outcome.new }
 {
@@ -51,7 +52,14 @@ fn search_reader<R: Read + Drop, W: Write + Drop>(
     let mut writer = Headed::new(rt.alloc(), Output::new(writer));
     let mut totals = outcome.totals;
     let reported = report_one(
-        rt, finder, task, *outcome, name, &mut reader, &mut writer, &mut totals,
+        rt,
+        finder,
+        task,
+        *outcome,
+        name,
+        &mut reader,
+        &mut writer,
+        &mut totals,
     );
     outcome.totals = totals;
     outcome.keep_search(

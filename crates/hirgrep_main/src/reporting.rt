@@ -58,7 +58,7 @@ fn report_by_lines<R: Read, W: Write>(
     ensures reported { (by : SearchesFor finder.old (needs_spans task.entry.asked.now.what)) → IfSome (R.remaining reader.old) (λ bytes.
         IsInputReported (W.contents writer.old.writer) (W.contents writer.new.writer) result
         (report_for Lines task.entry zero outcome (patterns_by by) name.now bytes)
-        (whole_report_for Lines task.entry zero outcome (patterns_by by) name.now bytes) (count_for Lines task.entry zero (patterns_by by) bytes)) }
+        (whole_report_for Lines task.entry zero outcome (patterns_by by) name.now bytes) (count_for Lines task.entry zero (patterns_by by) name.now bytes)) }
 {
     let what = options_for(task, zero);
     if is_headed(task.asked.heading, what.print) {
@@ -103,7 +103,7 @@ pub fn report_reader<R: Read, W: Write>(
         IsInputReported (W.contents writer.old.writer) (W.contents writer.new.writer) result
         (report_for task.entry.asked.now.reading task.entry zero outcome (patterns_by by) name.now bytes)
         (whole_report_for task.entry.asked.now.reading task.entry zero outcome (patterns_by by) name.now bytes)
-        (count_for task.entry.asked.now.reading task.entry zero (patterns_by by) bytes)) }
+        (count_for task.entry.asked.now.reading task.entry zero (patterns_by by) name.now bytes)) }
 {
     if is_by_lines(task.asked.reading) {
         return report_by_lines(alloc, finder, task, zero, outcome, name, reader, writer);

@@ -1,6 +1,7 @@
 //! The sum of what was searched, for the summary of `--json`.
 ghost use Rattle.std.specs.Prelude.{◌≡◌};
-ghost use Rattle.hirgrep_main.specs.Totals.{summed, no_stats, no_time};
+ghost use Rattle.hirgrep_main.specs.Totals.{no_time, summed};
+ghost use Rattle.text_report.specs.Events.{no_stats};
 
 use json_events::{Elapsed, Stats};
 
@@ -33,7 +34,9 @@ pub fn summed(one: Stats, other: Stats) -> Stats
     Stats {
         elapsed: no_time(),
         searches: one.searches.saturating_add(other.searches),
-        searches_with_match: one.searches_with_match.saturating_add(other.searches_with_match),
+        searches_with_match: one
+            .searches_with_match
+            .saturating_add(other.searches_with_match),
         bytes_searched: one.bytes_searched.saturating_add(other.bytes_searched),
         bytes_printed: one.bytes_printed.saturating_add(other.bytes_printed),
         matched_lines: one.matched_lines.saturating_add(other.matched_lines),

@@ -10,7 +10,7 @@ use crate::outcome::Outcome;
 use crate::reading::{Reading, read_whole};
 use crate::reporting::is_headed;
 use crate::task::Task;
-use crate::totals::summed;
+use crate::totals::{no_time, summed};
 use grep_core::{Headed, OutputOptions, SeparatorState, heading_of};
 use json_events::Stats;
 use line_search::{Fault, Finder};
@@ -28,7 +28,7 @@ fn report_json<W: Write>(
     writer: &mut W,
     totals: &mut Stats,
 ) -> Result<u64, Fault> {
-    let stats = report_events(alloc, finder, what, name, text, writer)?;
+    let stats = report_events(alloc, finder, what, name, text, no_time(), writer)?;
     *totals = summed(*totals, stats);
     Ok(stats.matched_lines)
 }
@@ -100,10 +100,27 @@ pub fn report_whole<R: Read, W: Write>(
     let writer = &mut writer.writer;
     if is_headed(task.asked.heading, what.print) {
         return report_below(
-            alloc, finder, task, what, outcome.printed, name, &text, writer, totals,
+            alloc,
+            finder,
+            task,
+            what,
+            outcome.printed,
+            name,
+            &text,
+            writer,
+            totals,
         );
     }
     report_body(
-        alloc, finder, reading, what, name, task.with_name, outcome.known(), &text, writer, totals,
+        alloc,
+        finder,
+        reading,
+        what,
+        name,
+        task.with_name,
+        outcome.known(),
+        &text,
+        writer,
+        totals,
     )
 }
