@@ -5,6 +5,7 @@ use Rattle.clap.specs.declared.parser.matches.Found.{Found}
 use Rattle.grep_options.specs.Options.{is_set}
 use Rattle.grep_options.specs.Sizes.{size_of}
 use Rattle.grep_core.specs.Reporting.{needs_spans, prints_lines}
+use Rattle.grep_core.specs.declared.output_options.OutputOptions.{OutputOptions}
 use Rattle.hirgrep_main.specs.declared.asked.Asked.{Asked}
 use Rattle.hirgrep_main.specs.declared.reading.Reading.{Reading}
 use Rattle.hirgrep_main.specs.declared.reading.Reading.TheVariants.{Lines, Records, Text, Events}
@@ -33,8 +34,11 @@ lists_all Text = true
 lists_all Events = true
 
 -- Where matches are is asked for, and not only whether there are any.
+abbrev pub lists_in : Reading → OutputOptions → Bool
+lists_in r w = lists_all r || needs_spans w
+
 abbrev pub lists_matches : Asked → Bool
-lists_matches a = lists_all a.reading || needs_spans a.what
+lists_matches a = lists_in a.reading a.what
 
 abbrev pub prints_json : Reading → Bool
 prints_json Lines = false

@@ -1,17 +1,20 @@
 //! What is printed for an input that is read as a whole.
-ghost use Rattle.std.specs.Prelude.{◌≡◌, IfSome, true};
-ghost use Rattle.std.specs.Prelude.{List, ℕ};
-ghost use Rattle.line_search.specs.Searchers.{SearchesFor};
-ghost use Rattle.hirgrep_main.specs.Readings.{is_by_lines, lists_matches};
+ghost use Rattle.std.specs.Prelude.{◌≡◌, ◌++◌, ℕ, false, true, IfErr, IfOk, IfSome, OnOk, take};
+ghost use Rattle.std.specs.Io.KnownBytes.{Appends};
+ghost use Rattle.line_search.specs.Searchers.{SearchesFor, found_by};
+ghost use Rattle.grep_core.specs.Headings.{heading, under};
+ghost use Rattle.text_report.specs.Events.{json_report, json_stats};
 ghost use Rattle.hirgrep_main.specs.Decisions.{is_headed};
+ghost use Rattle.hirgrep_main.specs.Readings.{lists_in};
 ghost use Rattle.hirgrep_main.specs.Tasks.{IsInputReported, body, body_count, patterns_by, report_by, whole_report_by};
+ghost use Rattle.hirgrep_main.specs.Totals.{no_time, summed};
 
 use crate::outcome::Outcome;
 use crate::reading::{Reading, read_whole};
 use crate::reporting::is_headed;
 use crate::task::Task;
 use crate::totals::{no_time, summed};
-use grep_core::{Headed, OutputOptions, SeparatorState, heading_of};
+use grep_core::{Headed, OutputOptions, SeparatorState, heading_of, report_input};
 use json_events::Stats;
 use line_search::{Fault, Finder};
 use std::alloc::Global;
@@ -27,13 +30,23 @@ fn report_json<W: Write>(
     text: &[u8],
     writer: &mut W,
     totals: &mut Stats,
-) -> Result<u64, Fault> {
+) -> Result<u64, Fault>
+    ensures same { finder.new ≡ finder.old }
+    ensures written { OnOk result ((by : SearchesFor finder.old true) → Appends (W.contents writer.old) (W.contents writer.new)
+        (json_report what.now (found_by by) name.now no_time text.now)) }
+    ensures counted { IfOk result (λ n. (by : SearchesFor finder.old true) →
+        n ≡ (json_stats what.now (found_by by) name.now no_time text.now).matched_lines) }
+    ensures part { IfErr result (λ _. (by : SearchesFor finder.old true) → (n : ℕ) × Appends (W.contents writer.old) (W.contents writer.new)
+        (take n (json_report what.now (found_by by) name.now no_time text.now))) }
+    ensures sum { IfOk result (λ _. (by : SearchesFor finder.old true) →
+        totals.new ≡ summed totals.old (json_stats what.now (found_by by) name.now no_time text.now)) }
+{
     let stats = report_events(alloc, finder, what, name, text, no_time(), writer)?;
     *totals = summed(*totals, stats);
     Ok(stats.matched_lines)
 }
 
-/// Writes what is printed for a text: its records, the lines that matches touch, or its lines as JSON.
+/// Writes what is printed for a text: its lines, its records, the lines that matches touch, or its lines as JSON.
 fn report_body<W: Write>(
     alloc: Global,
     finder: &mut Finder<'_>,
@@ -45,11 +58,34 @@ fn report_body<W: Write>(
     text: &[u8],
     writer: &mut W,
     totals: &mut Stats,
-) -> Result<u64, Fault> {
+) -> Result<u64, Fault>
+    ensures same { finder.new ≡ finder.old }
+    ensures written { OnOk result ((by : SearchesFor finder.old (lists_in reading what.now)) → Appends (W.contents writer.old) (W.contents writer.new)
+        (body reading what.now (patterns_by by) name.now with_name known text.now)) }
+    ensures counted { IfOk result (λ n. (by : SearchesFor finder.old (lists_in reading what.now)) →
+        n ≡ body_count reading what.now (patterns_by by) name.now text.now) }
+    ensures part { IfErr result (λ _. (by : SearchesFor finder.old (lists_in reading what.now)) → (n : ℕ) × Appends (W.contents writer.old) (W.contents writer.new)
+        (take n (body reading what.now (patterns_by by) name.now with_name known text.now))) }
+{
     match reading {
         Reading::Text => report_text(alloc, finder, what, name, with_name, known, text, writer),
         Reading::Events => report_json(alloc, finder, what, name, text, writer, totals),
-        _ => report_records(alloc, finder, what, name, with_name, known, text, writer),
+        Reading::Records => report_records(
+            alloc, finder, what, name, with_name, known, text, writer,
+        ),
+        Reading::Lines => {
+            let mut reader = text;
+            report_input(
+                alloc,
+                finder,
+                what,
+                name,
+                with_name,
+                known,
+                &mut reader,
+                writer,
+            )
+        }
     }
 }
 
@@ -64,7 +100,17 @@ fn report_below<W: Write>(
     text: &[u8],
     writer: &mut W,
     totals: &mut Stats,
-) -> Result<u64, Fault> {
+) -> Result<u64, Fault>
+    ensures same { finder.new ≡ finder.old }
+    ensures written { OnOk result ((by : SearchesFor finder.old (lists_in task.entry.asked.now.reading what.now)) → Appends (W.contents writer.old) (W.contents writer.new)
+        (under (heading what.now name.now task.entry.with_name printed)
+        (body task.entry.asked.now.reading what.now (patterns_by by) name.now false SeparatorState.NonePrinted text.now))) }
+    ensures counted { IfOk result (λ n. (by : SearchesFor finder.old (lists_in task.entry.asked.now.reading what.now)) →
+        n ≡ body_count task.entry.asked.now.reading what.now (patterns_by by) name.now text.now) }
+    ensures part { IfErr result (λ _. (by : SearchesFor finder.old (lists_in task.entry.asked.now.reading what.now)) → (n : ℕ) × Appends (W.contents writer.old) (W.contents writer.new)
+        (take n (heading what.now name.now task.entry.with_name printed
+        ++ body task.entry.asked.now.reading what.now (patterns_by by) name.now false SeparatorState.NonePrinted text.now))) }
+{
     let reading = task.asked.reading;
     let none = SeparatorState::NonePrinted;
     let mut body = Vec::new(alloc);
@@ -94,7 +140,16 @@ pub fn report_whole<R: Read, W: Write>(
     reader: &mut R,
     writer: &mut Headed<W>,
     totals: &mut Stats,
-) -> Result<u64, Fault> {
+) -> Result<u64, Fault>
+    ensures same { finder.new ≡ finder.old }
+    ensures reported { (by : SearchesFor finder.old (lists_in task.entry.asked.now.reading what.now)) → IfSome (R.remaining reader.old) (λ bytes.
+        IsInputReported (W.contents writer.old.writer) (W.contents writer.new.writer) result
+        (report_by task.entry.asked.now.reading (is_headed task.entry.asked.now.heading what.now.print) task.entry what.now outcome
+        (patterns_by by) name.now bytes)
+        (whole_report_by task.entry.asked.now.reading (is_headed task.entry.asked.now.heading what.now.print) task.entry what.now outcome
+        (patterns_by by) name.now bytes)
+        (body_count task.entry.asked.now.reading what.now (patterns_by by) name.now bytes)) }
+{
     let reading = task.asked.reading;
     let text = read_whole(alloc, reader, task.asked.most_read)?;
     let writer = &mut writer.writer;
