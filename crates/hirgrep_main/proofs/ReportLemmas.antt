@@ -1,7 +1,9 @@
 -- The report of one input, by its first bytes and the others.
-use Rattle.std.proofs.Common.{◌≡◌, ℕ, Bool, true, false, ◌&&◌, List, ◌++◌, take, ap, sym, subst, refl, if◌then◌else◌}
+use Rattle.grep_core.specs.Headings.{under}
+use Rattle.std.proofs.Common.{◌≡◌, ℕ, Bool, true, false, ◌&&◌, List, [], ◌∷◌, ◌++◌, take, ap, sym, subst, refl, if◌then◌else◌}
 use Rattle.std.specs.Prelude.{Option, Some, None, IfErr, IfOk, IfSome, OnOk, Result, Ok, Err}
 use Rattle.std.specs.Io.KnownBytes.{Appends, Consumes}
+use lib.Seq.{take-nil}
 use Rattle.std.proofs.KnownBytes.{Appends-nil}
 use Rattle.std.specs.Fmt.{option_append}
 use Rattle.line_search.specs.declared.fault.Fault.{Fault}
@@ -78,6 +80,25 @@ reported_as o old new r all whole count written counted part by =
     (with_by r (λ b. IfSome o (λ text. Appends old new (all b text))) written by)
     (ok_by r (λ n b. IfSome o (λ text. n ≡ count b text)) counted by)
     (err_by r (λ b. IfSome o (λ text. (n : ℕ) × Appends old new (take n (whole b text)))) part by)
+
+-- That record for an input that was read as a whole.
+pub whole_reported : {S : Type 0} (known : Option (List ℕ)) (items : List ℕ) (old new : Option (List ℕ)) (r : Result ℕ Fault)
+    (all whole : S → List ℕ → List ℕ) (count : S → List ℕ → ℕ) → IfSome known (λ bytes. items ≡ bytes)
+    → OnOk r ((by : S) → Appends old new (all by items)) → IfOk r (λ n. (by : S) → n ≡ count by items)
+    → IfErr r (λ _. (by : S) → (n : ℕ) × Appends old new (take n (whole by items)))
+    → (by : S) → IfSome known (λ text. IsInputReported old new r (all by text) (whole by text) (count by text))
+whole_reported None items old new r all whole count same written counted part by = _
+whole_reported (Some text) items old new r all whole count same written counted part by =
+    subst (λ (xs : List ℕ). IsInputReported old new r (all by xs) (whole by xs) (count by xs)) same
+    (gathered (Some items) old new r (all by) (whole by) (count by)
+    (with_by r (λ b. Appends old new (all b items)) written by) (ok_by r (λ n b. n ≡ count b items) counted by)
+    (err_by r (λ b. (n : ℕ) × Appends old new (take n (whole b items))) part by))
+
+-- A beginning of a text under a heading is one of the heading and the text.
+pub part_under : (old new : Option (List ℕ)) (head text : List ℕ) → ((n : ℕ) × Appends old new (take n (under head text)))
+    → (n : ℕ) × Appends old new (take n (head ++ text))
+part_under old new head [] (n, h) = (0, subst (Appends old new) (take-nil n) h)
+part_under old new head (b ∷ text) (n, h) = (n, h)
 
 -- That record for the options that an input has, and its name.
 pub reported_for : (s : Sought) (reading : Reading) (b : Binary) (zero : Bool) (w v : OutputOptions) (o old new : Option (List ℕ)) (r : Result ℕ Fault)

@@ -14,10 +14,10 @@ use crate::reading::{Reading, read_whole};
 use crate::reporting::is_headed;
 use crate::task::Task;
 use crate::totals::{no_time, summed};
-use grep_core::{Headed, OutputOptions, SeparatorState, heading_of, report_input};
+use grep_core::{Headed, OutputOptions, SeparatorState, heading_of, report_input, write_out};
 use json_events::Stats;
 use line_search::{Fault, Finder};
-use std::alloc::Global;
+use std::alloc::{AllocError, Global};
 use std::io::{Read, Write};
 use text_report::{report_events, report_records, report_text};
 
@@ -41,7 +41,10 @@ fn report_json<W: Write>(
     ensures sum { IfOk result (λ _. (by : SearchesFor finder.old true) →
         totals.new ≡ summed totals.old (json_stats what.now (found_by by) name.now no_time text.now)) }
 {
-    let stats = report_events(alloc, finder, what, name, text, no_time(), writer)?;
+    let stats = match report_events(alloc, finder, what, name, text, no_time(), writer) {
+        Ok(stats) => stats,
+        Err(e) => return Err(e),
+    };
     *totals = summed(*totals, stats);
     Ok(stats.matched_lines)
 }
@@ -89,6 +92,25 @@ fn report_body<W: Write>(
     }
 }
 
+/// A text under a heading. An empty one has none.
+fn text_under(
+    alloc: Global,
+    what: &OutputOptions<'_>,
+    name: &[u8],
+    with_name: bool,
+    printed: bool,
+    text: &[u8],
+) -> Result<Vec<u8>, AllocError>
+    ensures { IfOk result (λ all. all.items ≡ under (heading what.now name.now with_name printed) text.now) }
+{
+    if text.is_empty() {
+        return Ok(Vec::new(alloc));
+    }
+    let mut all = heading_of(alloc, what, name, with_name, printed)?;
+    all.extend_from_slice(text)?;
+    Ok(all)
+}
+
 /// Writes what is printed for a text under a heading. If nothing is printed, there is no heading.
 fn report_below<W: Write>(
     alloc: Global,
@@ -111,20 +133,30 @@ fn report_below<W: Write>(
         (take n (heading what.now name.now task.entry.with_name printed
         ++ body task.entry.asked.now.reading what.now (patterns_by by) name.now false SeparatorState.NonePrinted text.now))) }
 {
-    let reading = task.asked.reading;
-    let none = SeparatorState::NonePrinted;
     let mut body = Vec::new(alloc);
-    let lines = report_body(
-        alloc, finder, reading, what, name, false, none, text, &mut body, totals,
-    )?;
-    if body.is_empty() {
-        return Ok(lines);
-    }
-    let mut all = heading_of(alloc, what, name, task.with_name, printed)?;
-    all.extend_from_slice(&body)?;
-    match writer.write_all(&all) {
+    let none = SeparatorState::NonePrinted;
+    let lines = match report_body(
+        alloc,
+        finder,
+        task.asked.reading,
+        what,
+        name,
+        false,
+        none,
+        text,
+        &mut body,
+        totals,
+    ) {
+        Ok(lines) => lines,
+        Err(e) => return Err(e),
+    };
+    let all = match text_under(alloc, what, name, task.with_name, printed, &body) {
+        Ok(all) => all,
+        Err(_) => return Err(Fault::NoMemory),
+    };
+    match write_out(writer, &all) {
         Ok(()) => Ok(lines),
-        Err(error) => Err(Fault::Write(error.kind())),
+        Err(e) => Err(e),
     }
 }
 
@@ -151,7 +183,10 @@ pub fn report_whole<R: Read, W: Write>(
         (body_count task.entry.asked.now.reading what.now (patterns_by by) name.now bytes)) }
 {
     let reading = task.asked.reading;
-    let text = read_whole(alloc, reader, task.asked.most_read)?;
+    let text = match read_whole(alloc, reader, task.asked.most_read) {
+        Ok(text) => text,
+        Err(e) => return Err(e),
+    };
     let writer = &mut writer.writer;
     if is_headed(task.asked.heading, what.print) {
         return report_below(

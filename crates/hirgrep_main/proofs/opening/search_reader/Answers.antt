@@ -2,7 +2,7 @@ use Rattle.std.proofs.Common.{ap}
 use Rattle.hirgrep_main.specs.Outcomes.{with_totals}
 use Rattle.hirgrep_main.specs.Tasks.{count_of, patterns_by, report_in, whole_report_in}
 use Rattle.hirgrep_main.specs.Texts.{printed_name}
-use Rattle.hirgrep_main.proofs.OutcomeLemmas.{continues_as, continues_searched, searched_as}
+use Rattle.hirgrep_main.proofs.OutcomeLemmas.{continues_as, continues_searched, continues_with, searched_as}
 use Rattle.hirgrep_main.proofs.ReportLemmas.{counted_known}
 use Rattle.hirgrep_main.proofs.opening.search_reader.Goals as goal
 
@@ -28,5 +28,6 @@ returns-clause-counted g c =
 pub returns-clause-continues : goal.returns-clause-continues
 returns-clause-continues g c =
     let print = c.args.task.asked.now.what.print in
-    continues_as (continues_searched print (with_totals c.args.outcome.now c.report_one-reported.new.totals) c.count.result c.wrote.result c.report_one-reported.result)
-    c.keep_search.ensures
+    let before = with_totals c.args.outcome.now c.report_one-reported.new.totals in
+    continues_with c.report_one-reported.new.totals
+    (continues_as (continues_searched print before c.count.result c.wrote.result c.report_one-reported.result) c.keep_search.ensures)

@@ -1,4 +1,4 @@
-use Rattle.std.proofs.Common.{List, ℕ, subst, sym}
+use Rattle.std.proofs.Common.{◌∙◌, subst, sym}
 use Rattle.std.specs.Prelude.{IfSome}
 use Rattle.line_search.specs.Searchers.{SearchesFor}
 use Rattle.hirgrep_main.specs.Decisions.{is_headed}
@@ -15,14 +15,14 @@ returns-then-is_by_lines-clause-reported g c =
     (report_for r c.args.task c.args.zero c.args.outcome (patterns_by by) c.args.name.now text)
     (whole_report_for r c.args.task c.args.zero c.args.outcome (patterns_by by) c.args.name.now text)
     (count_for r c.args.task c.args.zero (patterns_by by) c.args.name.now text)))
-    (sym (by_lines c.args.task.asked.now.reading c.if-is_by_lines.true)) c.report_by_lines.ensures.reported
+    (sym (by_lines c.args.task.asked.now.reading (sym c.is_by_lines.ensures ∙ c.if-is_by_lines.true))) c.report_by_lines.ensures.reported
 
 pub returns-clause-reported : goal.returns-clause-reported
 returns-clause-reported g c =
     let r = c.args.task.asked.now.reading in
     reported_for c.args.finder.now r c.args.task.asked.now.binary c.args.zero (options_in c.args.task) c.options_for-what.result
     (g.R.Read.remaining c.args.reader.now) (g.W.Write.contents c.args.writer.now.writer) (g.W.Write.contents c.report_whole.new.writer.writer)
-    c.report_whole.result c.as_bytes.result.now c.args.name.now
+    c.report_whole.result c.as_bytes-name.result.now c.args.name.now
     (λ name v m text. report_by r (is_headed c.args.task.asked.now.heading v.print) c.args.task v c.args.outcome m name text)
     (λ name v m text. whole_report_by r (is_headed c.args.task.asked.now.heading v.print) c.args.task v c.args.outcome m name text)
-    (λ name v m text. body_count r v m name text) c.options_for-what.ensures c.as_bytes.ensures.value c.report_whole.ensures.reported
+    (λ name v m text. body_count r v m name text) c.options_for-what.ensures c.as_bytes-name.ensures.value c.report_whole.ensures.reported
