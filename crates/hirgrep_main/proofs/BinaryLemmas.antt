@@ -47,3 +47,9 @@ pub whole_read : (known : Option (List ℕ)) (limit : ℕ) (start items : List �
 whole_read None limit start items none h less = _
 whole_read (Some bytes) limit start items none h less =
     cut_whole items bytes limit (h ∙ ap (λ xs. xs ++ take limit bytes) none) less (cases_lt (length bytes) limit)
+
+-- A reader that takes so many bytes of another one.
+pub taken : {R : Type 0} (remaining : R → Option (List ℕ)) (inner reader : R) (most limit : ℕ) (P : List ℕ → Type 0) → most ≡ limit → inner ≡ reader
+    → IfSome (option_map (take most) (remaining inner)) P → IfSome (option_map (take limit) (remaining reader)) P
+taken remaining inner reader most limit P e f h =
+    subst (λ r. IfSome (option_map (take limit) (remaining r)) P) f (subst (λ (n : ℕ). IfSome (option_map (take n) (remaining inner)) P) e h)

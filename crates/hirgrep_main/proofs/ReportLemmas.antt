@@ -1,6 +1,6 @@
 -- The report of one input, by its first bytes and the others.
 use Rattle.grep_core.specs.Headings.{under}
-use Rattle.std.proofs.Common.{◌≡◌, ℕ, Bool, true, false, ◌&&◌, List, [], ◌∷◌, ◌++◌, take, ap, sym, subst, refl, if◌then◌else◌}
+use Rattle.std.proofs.Common.{◌≡◌, ◌∙◌, ℕ, Bool, true, false, ◌&&◌, List, [], ◌∷◌, ◌++◌, take, ap, sym, subst, refl, if◌then◌else◌}
 use Rattle.std.specs.Prelude.{Option, Some, None, IfErr, IfOk, IfSome, OnOk, Result, Ok, Err}
 use Rattle.std.specs.Io.KnownBytes.{Appends, Consumes}
 use lib.Seq.{take-nil}
@@ -93,6 +93,11 @@ whole_reported (Some text) items old new r all whole count same written counted 
     (gathered (Some items) old new r (all by) (whole by) (count by)
     (with_by r (λ b. Appends old new (all b items)) written by) (ok_by r (λ n b. n ≡ count b items) counted by)
     (err_by r (λ b. (n : ℕ) × Appends old new (take n (whole b items))) part by))
+
+-- What is equal to the whole is, by another name.
+pub same_as : (known : Option (List ℕ)) (a b : List ℕ) → a ≡ b → IfSome known (λ xs. b ≡ xs) → IfSome known (λ xs. a ≡ xs)
+same_as None a b e h = _
+same_as (Some xs) a b e h = e ∙ h
 
 -- A beginning of a text under a heading is one of the heading and the text.
 pub part_under : (old new : Option (List ℕ)) (head text : List ℕ) → ((n : ℕ) × Appends old new (take n (under head text)))
