@@ -82,7 +82,7 @@ class Races:
 
     def race_checks(self):
         """GNU grep opens what it finds in a folder without following links and without waiting for a writer."""
-        opened = "hirgrep_main/src/searching.rt: search_file opens what search_kind found"
+        opened = "hirgrep_main/src/opening.rt: search_file opens what search_kind found"
         yield Check("a file becomes a FIFO before it is opened", lambda: self.file(os.mkfifo), 1, b"", "", Known(opened, None, ""))
         link = lambda path: os.symlink("../outside", path)
         yield Check("a file becomes a link before it is opened", lambda: self.file(link), 1, b"", "", Known(opened, 0, "", b"races/file:ab\n"))

@@ -60,6 +60,5 @@ GNU = {
     "pcre-abort": "no pattern makes a search give up",
     "posix-bracket": "`[.a.]` in brackets",
     "skip-read": "a file is opened, and reported if it is missing, also if no line can be selected",
-    "pcre-z": "the option `-z` isn't there",
     "yesno": "the position of standard input after `-m`",
 }

@@ -18,7 +18,7 @@ LETTERS = {"0": "--null", "E": "--encoding", "I": "--no-filename", "L": "-R", "N
            "h": "--help"}
 LONG = {"case-sensitive": "no-ignore-case", "context-separator": "group-separator", "no-context-separator": "no-group-separator", "follow": "dereference-recursive",
         "maxdepth": "max-depth", "null-data": "null-data", "passthrough": "passthru", "no-unicode": "no-unicode"}
-ALREADY = {"no-heading", "no-mmap", "mmap", "no-config", "threads", "no-pcre2", "no-stats", "no-multiline"}
+ALREADY = {"no-heading", "no-mmap", "mmap", "no-config", "threads", "no-pcre2", "no-stats"}
 # options that undo another one
 UNDOING = {"require-git": "--no-require-git", "ignore-vcs": "--no-ignore-vcs", "ignore-dot": "--no-ignore-dot", "ignore-parent": "--no-ignore-parent",
            "ignore-exclude": "--no-ignore-exclude", "ignore-files": "--no-ignore-files", "no-include-zero": "--include-zero", "no-trim": "--trim",

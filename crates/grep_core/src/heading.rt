@@ -122,7 +122,7 @@ impl<W: Write> Write for Headed<W> {
 
 /// The heading of an input: its name as a line, if it is to be printed. If something was printed for earlier inputs, an empty line
 /// precedes it.
-fn heading_of(
+pub fn heading_of(
     alloc: Global,
     what: &OutputOptions<'_>,
     name: &[u8],

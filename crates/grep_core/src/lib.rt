@@ -30,7 +30,7 @@ mod texts;
 pub use blocks::report_one;
 pub use colors::Colors;
 pub use context_printer::{ContextPrinter, Waiting, first_of};
-pub use heading::{Headed, report_headed};
+pub use heading::{Headed, heading_of, report_headed};
 pub use line::Line;
 pub use looking::{needs_spans, searched};
 pub use output_options::{Context, GroupSeparator, OutputOptions, Print};

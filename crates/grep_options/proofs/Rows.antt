@@ -4,11 +4,11 @@ use Rattle.std.proofs.Common.{ap, append_assoc, map, refl, sym, slice_get, unwra
 use Rattle.std.proofs.lemmas.List.{append-nil, append_cancel_left, map-append}
 use Rattle.std.specs.List.{list_any}
 use Rattle.std.specs.Borrow.{Bor}
-use Rattle.clap.specs.Adds.{AddsAliases, AddsOverrides, AddsShortAliases}
+use Rattle.clap.specs.Adds.{AddsAliases, AddsConflicts, AddsOverrides, AddsShortAliases}
 use Rattle.clap.specs.Words.{AddsArg, AddsInTurn, App, Rule, args_of, rule_of}
 use Rattle.clap.specs.declared.builder.arg.Arg.{Arg}
 use Rattle.clap.specs.declared.builder.command.Command.{Command}
-use Rattle.grep_options.specs.CommandLine.{AddsOptions, OptionRow, letter_of, options, option_row, option_rows, turning_off}
+use Rattle.grep_options.specs.CommandLine.{AddsOptions, OptionRow, excluding, letter_of, options, option_row, option_rows, turning_off}
 
 ap₄ : {A B C D E : Type 0} (f : A → B → C → D → E) {a b : A} {x y : B} {u v : C} {m n : D} → a ≡ b → x ≡ y → u ≡ v → m ≡ n
     → f a x u m ≡ f b y v n
@@ -31,6 +31,12 @@ pub row_over : (old new : Arg) (x : Bor (List ℕ)) → AddsOverrides old new (x
 row_over old new x (e, f) =
     let names = ap (map (λ s. s.now)) f ∙ map-append (λ s. s.now) old.overrides.items (x ∷ []) in
     ap option_row e ∙ ap (λ ns. record (option_row old) { turns_off = ns }) names
+
+-- one more option with which this one is an error
+pub row_excluding : (old new : Arg) (x : Bor (List ℕ)) → AddsConflicts old new (x ∷ []) → option_row new ≡ excluding (option_row old) x.now
+row_excluding old new x (e, f) =
+    let names = ap (map (λ s. s.now)) f ∙ map-append (λ s. s.now) old.conflicts.items (x ∷ []) in
+    ap option_row e ∙ ap (λ ns. record (option_row old) { excludes = ns }) names
 
 -- one more letter
 pub row_lettered : (old new : Arg) (x : ℕ × Bool) → AddsShortAliases old new (x ∷ []) → option_row new

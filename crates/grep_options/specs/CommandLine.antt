@@ -328,6 +328,50 @@ accepted_options =
     ∷ option (codes "encoding") [] Set
     ∷ []
 
+-- an option that is an error together with one more
+abbrev pub excluding : OptionRow → List ℕ → OptionRow
+excluding row other = record row { excludes = row.excludes ++ other ∷ [] }
+
+-- Records that end in zero bytes. Of this option and `crlf` the later one takes effect.
+abbrev pub null_option : OptionRow
+null_option = record (flag (codes "null-data") (codes "z")) {
+  turns_off = codes "crlf" ∷ [];
+  excludes = codes "multiline" ∷ codes "json" ∷ [];
+}
+
+abbrev pub multiline_option : OptionRow
+multiline_option = record (flag (codes "multiline") []) {
+  turns_off = codes "no-multiline" ∷ [];
+  excludes = codes "replace" ∷ [];
+}
+
+-- Matches over several lines. Of the first two the later one takes effect, and of the last two.
+abbrev pub text_options : List OptionRow
+text_options =
+    multiline_option
+    ∷ flag_over (codes "no-multiline") [] (codes "multiline")
+    ∷ flag_over (codes "multiline-dotall") [] (codes "no-multiline-dotall")
+    ∷ flag_over (codes "no-multiline-dotall") [] (codes "multiline-dotall")
+    ∷ []
+
+abbrev pub json_option : OptionRow
+json_option = record (flag (codes "json") []) {
+  turns_off = codes "no-json" ∷ [];
+  excludes = codes "count" ∷ codes "count-matches" ∷ codes "files" ∷ codes "files-with-matches" ∷ codes "files-without-match"
+      ∷ codes "multiline" ∷ [];
+}
+
+-- JSON instead of lines. Of these two the later one takes effect.
+abbrev pub json_options : List OptionRow
+json_options =
+    json_option
+    ∷ flag_over (codes "no-json") [] (codes "json")
+    ∷ []
+
+-- Inputs that are read as a whole, and how large they may be.
+abbrev pub input_options : List OptionRow
+input_options = null_option ∷ (text_options ++ (json_options ++ option (codes "max-size") [] Set ∷ []))
+
 -- A use of this option without a value counts as `auto`.
 abbrev pub color_option : OptionRow
 color_option = record (option (codes "color") [] Set) { aliases = codes "colour" ∷ []; missing = codes "auto" ∷ [] }
@@ -340,7 +384,7 @@ abbrev pub other_options : List OptionRow
 other_options =
     color_option
     ∷ option (codes "label") [] Set
-    ∷ flag (codes "crlf") []
+    ∷ flag_over (codes "crlf") [] (codes "null-data")
     ∷ flag (codes "stats") []
     ∷ option (codes "help") [] Help
     ∷ option (codes "version") (codes "V") Version
@@ -357,4 +401,4 @@ options =
     ++ (selecting_options
     ++ (printing_options
     ++ (folder_options
-    ++ (file_options ++ (paired_options ++ (number_options ++ (binary_options ++ (accepted_options ++ (format_options ++ other_options)))))))))))
+    ++ (file_options ++ (paired_options ++ (number_options ++ (binary_options ++ (accepted_options ++ (format_options ++ (input_options ++ other_options))))))))))))

@@ -76,11 +76,11 @@ option_words word s =
 
 -- ---- words
 
--- one of the options that choose files and that GNU grep doesn't have
+-- one of the options that choose files, or limit what is read of them, and that GNU grep doesn't have
 abbrev pub is_awaiting_choice : List ℕ → Bool
 is_awaiting_choice w =
     bytes_eq w (codes "--iglob") || (bytes_eq w (codes "--ignore-file") || (bytes_eq w (codes "--max-filesize")
-    || (bytes_eq w (codes "--type-add") || bytes_eq w (codes "--type-clear"))))
+    || (bytes_eq w (codes "--max-size") || (bytes_eq w (codes "--type-add") || bytes_eq w (codes "--type-clear")))))
 
 -- one of the options that choose files
 abbrev pub is_awaiting_file : List ℕ → Bool

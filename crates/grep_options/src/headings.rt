@@ -15,6 +15,9 @@ pub fn heading_of(id: &str) -> Option<&'static str> {
         | "crlf"
         | "null-data"
         | "multiline"
+        | "no-multiline"
+        | "multiline-dotall"
+        | "no-multiline-dotall"
         | "max-count" => Some("What is selected"),
         "include"
         | "exclude"
@@ -39,7 +42,8 @@ pub fn heading_of(id: &str) -> Option<&'static str> {
         | "glob-case-insensitive"
         | "type-add"
         | "type-clear"
-        | "max-filesize" => Some("Which files are searched"),
+        | "max-filesize"
+        | "max-size" => Some("Which files are searched"),
         "directory"
         | "recursive"
         | "dereference-recursive"
@@ -62,7 +66,8 @@ pub fn heading_of(id: &str) -> Option<&'static str> {
         | "passthru"
         | "vimgrep"
         | "replace"
-        | "json" => Some("What is printed"),
+        | "json"
+        | "no-json" => Some("What is printed"),
         "after-context" | "before-context" | "context" | "group-separator" | "no-group-separator" =>
             Some("Context"),
         "with-filename"

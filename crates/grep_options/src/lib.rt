@@ -11,6 +11,7 @@ mod files;
 mod format;
 mod headings;
 mod ignoring;
+mod inputs;
 mod numbers;
 mod options;
 mod sizes;

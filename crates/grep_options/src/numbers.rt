@@ -158,13 +158,14 @@ fn push_pieces(
     push_bytes(alloc, words, "-", cluster.letters.as_slice())
 }
 
-/// Whether the word is an option that chooses files, and that GNU grep doesn't have.
+/// Whether the word is an option that chooses files or limits what is read of them, and that GNU grep doesn't have.
 fn is_awaiting_choice(word: &str) -> bool
     ensures { result ≡ is_awaiting_choice word.now }
 {
     word == "--iglob"
         || word == "--ignore-file"
         || word == "--max-filesize"
+        || word == "--max-size"
         || word == "--type-add"
         || word == "--type-clear"
 }

@@ -12,6 +12,7 @@ use crate::case::{push_no_ignore, push_smart};
 use crate::files::push_files;
 use crate::format::push_format;
 use crate::headings::heading_of;
+use crate::inputs::{push_crlf, push_inputs};
 use clap::{Arg, ArgAction, Command, value_parser};
 use std::alloc::{AllocError, Global};
 
@@ -417,8 +418,7 @@ fn push_others<'a>(alloc: Global, args: &mut Vec<Arg<'a>>) -> Result<(), AllocEr
 {
     push_color(alloc, args)?;
     push_label(alloc, args)?;
-    let help = "a carriage return before the line feed belongs to the end of a line";
-    push_long(alloc, args, "crlf", help)?;
+    push_crlf(alloc, args)?;
     let help =
         "print to standard error, at the end, how many lines were selected and what the search took";
     push_long(alloc, args, "stats", help)?;
@@ -443,6 +443,7 @@ fn push_all<'a>(alloc: Global, args: &mut Vec<Arg<'a>>) -> Result<(), AllocError
     push_binary(alloc, args)?;
     push_accepted(alloc, args)?;
     push_format(alloc, args)?;
+    push_inputs(alloc, args)?;
     push_others(alloc, args)
 }
 

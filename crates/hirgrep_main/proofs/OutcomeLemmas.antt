@@ -1,11 +1,12 @@
 -- What came of files stays, whatever comes of the next ones.
 use Rattle.std.proofs.Common.{◌∙◌, ◌≡◌, ℕ, Bool, true, false, if◌then◌else◌, ◌||◌, ◌&&◌, nat_lt, ap, sym, subst, refl}
 use Rattle.std.specs.Prelude.{Result, Ok, Err}
+use Rattle.json_events.specs.declared.stats.Stats.{Stats}
 use Rattle.line_search.specs.declared.fault.Fault.{Fault}
 use Rattle.grep_core.specs.declared.output_options.Print.{Print}
 use Rattle.hirgrep_main.specs.declared.outcome.Outcome.{Outcome}
 use Rattle.hirgrep_main.specs.Decisions.{counted, prints_nothing}
-use Rattle.hirgrep_main.specs.Outcomes.{Continues, after_search, is_of_output, with_failure}
+use Rattle.hirgrep_main.specs.Outcomes.{Continues, after_search, is_of_output, with_failure, with_totals}
 use Rattle.hirgrep_main.specs.Walking.{Tries}
 
 or_stays : (a b : Bool) → a ≡ true → (a || b) ≡ true
@@ -33,6 +34,10 @@ continues_searched print o bytes wrote (Err fault) = record {
   failed = λ e. refl;
   ended = or_stays o.ended (is_of_output fault);
 }
+
+-- The sums of what was searched are no part of it.
+pub continues_with : {a b : Outcome} (s : Stats) → Continues (with_totals a s) b → Continues a b
+continues_with s p = record { selected = p.selected; printed = p.printed; failed = p.failed; ended = p.ended }
 
 -- by an equation of what came
 pub continues_as : {a b c : Outcome} → Continues a b → c ≡ b → Continues a c

@@ -1,28 +1,38 @@
 -- The report of one input, by its first bytes and the others.
-use Rattle.std.proofs.Common.{◌≡◌, ℕ, Bool, true, false, ◌&&◌, List, ◌++◌, take, ap, sym, subst, refl, if◌then◌else◌}
+use Rattle.grep_core.specs.Headings.{under}
+use Rattle.std.proofs.Common.{◌≡◌, ◌∙◌, ℕ, Bool, true, false, ◌&&◌, List, [], ◌∷◌, ◌++◌, take, ap, sym, subst, refl, if◌then◌else◌}
 use Rattle.std.specs.Prelude.{Option, Some, None, IfErr, IfOk, IfSome, OnOk, Result, Ok, Err}
 use Rattle.std.specs.Io.KnownBytes.{Appends, Consumes}
+use lib.Seq.{take-nil}
 use Rattle.std.proofs.KnownBytes.{Appends-nil}
 use Rattle.std.specs.Fmt.{option_append}
 use Rattle.line_search.specs.declared.fault.Fault.{Fault}
 use Rattle.grep_core.specs.declared.output_options.OutputOptions.{OutputOptions}
 use Rattle.grep_core.specs.declared.output_options.Print.TheVariants.{Nothing}
-use Rattle.line_search.specs.LineMatchers.{LineMatcher}
 use Rattle.grep_core.specs.Reporting.{needs_spans, prints_lines}
-use Rattle.line_search.specs.Searchers.{SearchesFor, Sought, found_by}
+use Rattle.line_search.specs.Searchers.{SearchesFor, Sought}
 use Rattle.hirgrep_main.specs.declared.binary.Binary.{Binary}
 use Rattle.hirgrep_main.specs.declared.binary.Binary.TheVariants.{AsText, Notice, NoMatch}
 use Rattle.hirgrep_main.specs.Binaries.{first_len, has_zero, is_binary, notices, options_by, remaining_of, searched_bytes}
-use Rattle.hirgrep_main.specs.Tasks.{IsInputReported}
+use Rattle.hirgrep_main.specs.Readings.{is_by_lines, lists_in}
+use Rattle.hirgrep_main.specs.Tasks.{IsInputReported, ReadPatterns, patterns_by}
+use Rattle.hirgrep_main.specs.declared.reading.Reading.{Reading}
+use Rattle.hirgrep_main.specs.declared.reading.Reading.TheVariants.{Lines, Records, Text, Events}
 
 noticed : (c : Bool) (w : OutputOptions) → needs_spans (if c then record w { print = Nothing } else w) ≡ true → needs_spans w ≡ true
 noticed true w e = cc
 noticed false w e = e
 
-pub searches_by : (b : Binary) (zero : Bool) (w : OutputOptions) (s : Sought) → SearchesFor s (needs_spans w)
-    → SearchesFor s (needs_spans (options_by b zero w))
-searches_by b zero w s by = record {
-  may = λ e. by.may (noticed ((notices b && zero) && prints_lines w.print) w e);
+listed : (r : Reading) (c : Bool) (w : OutputOptions) → lists_in r (if c then record w { print = Nothing } else w) ≡ true → lists_in r w ≡ true
+listed Lines c w e = noticed c w e
+listed Records c w e = noticed c w e
+listed Text c w e = refl
+listed Events c w e = refl
+
+pub searches_by : (r : Reading) (b : Binary) (zero : Bool) (w : OutputOptions) (s : Sought) → SearchesFor s (lists_in r w)
+    → SearchesFor s (lists_in r (options_by b zero w))
+searches_by r b zero w s by = record {
+  may = λ e. by.may (listed r ((notices b && zero) && prints_lines w.print) w e);
   how = by.how;
   same = by.same;
   patterns = by.patterns;
@@ -30,6 +40,13 @@ searches_by b zero w s by = record {
   names = by.names;
   named = by.named;
 }
+
+-- An input that is read line by line.
+pub by_lines : (r : Reading) → is_by_lines r ≡ true → r ≡ Lines
+by_lines Lines e = refl
+by_lines Records e = cc
+by_lines Text e = cc
+by_lines Events e = cc
 
 -- What the search of an input returned, as one record.
 gathered : (o old new : Option (List ℕ)) (r : Result ℕ Fault) (all whole : List ℕ → List ℕ) (count : List ℕ → ℕ)
@@ -53,38 +70,73 @@ err_by : {A : Type 0} (r : Result ℕ Fault) (P : A → Type 0) → IfErr r (λ 
 err_by (Ok n) P h by = _
 err_by (Err fault) P h by = h by
 
-reported_as : (s : Sought) (v : OutputOptions) (o old new : Option (List ℕ)) (r : Result ℕ Fault)
-    (all whole : OutputOptions → LineMatcher → List ℕ → List ℕ) (count : OutputOptions → LineMatcher → List ℕ → ℕ)
-    → OnOk r ((by : SearchesFor s (needs_spans v)) → IfSome o (λ text. Appends old new (all v (found_by by) text)))
-    → IfOk r (λ n. (by : SearchesFor s (needs_spans v)) → IfSome o (λ text. n ≡ count v (found_by by) text))
-    → IfErr r (λ _. (by : SearchesFor s (needs_spans v)) → IfSome o (λ text. (n : ℕ) × Appends old new (take n (whole v (found_by by) text))))
-    → (by : SearchesFor s (needs_spans v)) → IfSome o (λ text. IsInputReported old new r (all v (found_by by) text) (whole v (found_by by) text)
-    (count v (found_by by) text))
-reported_as s v o old new r all whole count written counted part by =
-    gathered o old new r (all v (found_by by)) (whole v (found_by by)) (count v (found_by by))
-    (with_by r (λ b. IfSome o (λ text. Appends old new (all v (found_by b) text))) written by)
-    (ok_by r (λ n b. IfSome o (λ text. n ≡ count v (found_by b) text)) counted by)
-    (err_by r (λ b. IfSome o (λ text. (n : ℕ) × Appends old new (take n (whole v (found_by b) text)))) part by)
+reported_as : {S : Type 0} (o old new : Option (List ℕ)) (r : Result ℕ Fault) (all whole : S → List ℕ → List ℕ) (count : S → List ℕ → ℕ)
+    → OnOk r ((by : S) → IfSome o (λ text. Appends old new (all by text)))
+    → IfOk r (λ n. (by : S) → IfSome o (λ text. n ≡ count by text))
+    → IfErr r (λ _. (by : S) → IfSome o (λ text. (n : ℕ) × Appends old new (take n (whole by text))))
+    → (by : S) → IfSome o (λ text. IsInputReported old new r (all by text) (whole by text) (count by text))
+reported_as o old new r all whole count written counted part by =
+    gathered o old new r (all by) (whole by) (count by)
+    (with_by r (λ b. IfSome o (λ text. Appends old new (all b text))) written by)
+    (ok_by r (λ n b. IfSome o (λ text. n ≡ count b text)) counted by)
+    (err_by r (λ b. IfSome o (λ text. (n : ℕ) × Appends old new (take n (whole b text)))) part by)
 
--- That record for the options that an input has, its name and whether it has a heading.
-pub reported_by : (s : Sought) (b : Binary) (zero : Bool) (w v : OutputOptions) (o old new : Option (List ℕ)) (r : Result ℕ Fault)
-    (given name : List ℕ) (headed has : Bool) (all whole : Bool → List ℕ → OutputOptions → LineMatcher → List ℕ → List ℕ)
-    (count : OutputOptions → LineMatcher → List ℕ → ℕ)
-    → v ≡ options_by b zero w → given ≡ name → headed ≡ has
-    → OnOk r ((by : SearchesFor s (needs_spans v)) → IfSome o (λ text. Appends old new (all headed given v (found_by by) text)))
-    → IfOk r (λ n. (by : SearchesFor s (needs_spans v)) → IfSome o (λ text. n ≡ count v (found_by by) text))
-    → IfErr r (λ _. (by : SearchesFor s (needs_spans v)) → IfSome o (λ text. (n : ℕ) × Appends old new (take n (whole headed given v (found_by by) text))))
-    → (by : SearchesFor s (needs_spans w)) → IfSome o (λ text. IsInputReported old new r (all has name (options_by b zero w) (found_by by) text)
-    (whole has name (options_by b zero w) (found_by by) text) (count (options_by b zero w) (found_by by) text))
+-- That record for an input that was read as a whole.
+pub whole_reported : {S : Type 0} (known : Option (List ℕ)) (items : List ℕ) (old new : Option (List ℕ)) (r : Result ℕ Fault)
+    (all whole : S → List ℕ → List ℕ) (count : S → List ℕ → ℕ) → IfSome known (λ bytes. items ≡ bytes)
+    → OnOk r ((by : S) → Appends old new (all by items)) → IfOk r (λ n. (by : S) → n ≡ count by items)
+    → IfErr r (λ _. (by : S) → (n : ℕ) × Appends old new (take n (whole by items)))
+    → (by : S) → IfSome known (λ text. IsInputReported old new r (all by text) (whole by text) (count by text))
+whole_reported None items old new r all whole count same written counted part by = _
+whole_reported (Some text) items old new r all whole count same written counted part by =
+    subst (λ (xs : List ℕ). IsInputReported old new r (all by xs) (whole by xs) (count by xs)) same
+    (gathered (Some items) old new r (all by) (whole by) (count by)
+    (with_by r (λ b. Appends old new (all b items)) written by) (ok_by r (λ n b. n ≡ count b items) counted by)
+    (err_by r (λ b. (n : ℕ) × Appends old new (take n (whole b items))) part by))
+
+-- What is equal to the whole is, by another name.
+pub same_as : (known : Option (List ℕ)) (a b : List ℕ) → a ≡ b → IfSome known (λ xs. b ≡ xs) → IfSome known (λ xs. a ≡ xs)
+same_as None a b e h = _
+same_as (Some xs) a b e h = e ∙ h
+
+-- A beginning of a text under a heading is one of the heading and the text.
+pub part_under : (old new : Option (List ℕ)) (head text : List ℕ) → ((n : ℕ) × Appends old new (take n (under head text)))
+    → (n : ℕ) × Appends old new (take n (head ++ text))
+part_under old new head [] (n, h) = (0, subst (Appends old new) (take-nil n) h)
+part_under old new head (b ∷ text) (n, h) = (n, h)
+
+-- That record for the options that an input has, and its name.
+pub reported_for : (s : Sought) (reading : Reading) (b : Binary) (zero : Bool) (w v : OutputOptions) (o old new : Option (List ℕ)) (r : Result ℕ Fault)
+    (given name : List ℕ) (all whole : List ℕ → OutputOptions → ReadPatterns → List ℕ → List ℕ)
+    (count : List ℕ → OutputOptions → ReadPatterns → List ℕ → ℕ) → v ≡ options_by b zero w → given ≡ name
+    → ((by : SearchesFor s (lists_in reading v)) → IfSome o (λ text. IsInputReported old new r (all given v (patterns_by by) text)
+    (whole given v (patterns_by by) text) (count given v (patterns_by by) text)))
+    → (by : SearchesFor s (lists_in reading w)) → IfSome o (λ text. IsInputReported old new r (all name (options_by b zero w) (patterns_by by) text)
+    (whole name (options_by b zero w) (patterns_by by) text) (count name (options_by b zero w) (patterns_by by) text))
 unfolding searches_by
-reported_by s b zero w v o old new r given name headed has all whole count same named is written counted part by =
-    subst (λ (h : Bool). IfSome o (λ text. IsInputReported old new r (all h name (options_by b zero w) (found_by by) text)
-    (whole h name (options_by b zero w) (found_by by) text) (count (options_by b zero w) (found_by by) text))) is
-    (subst (λ (m : List ℕ). IfSome o (λ text. IsInputReported old new r (all headed m (options_by b zero w) (found_by by) text)
-    (whole headed m (options_by b zero w) (found_by by) text) (count (options_by b zero w) (found_by by) text))) named
-    (subst (λ (u : OutputOptions). (it : SearchesFor s (needs_spans u)) → IfSome o (λ text. IsInputReported old new r
-    (all headed given u (found_by it) text) (whole headed given u (found_by it) text) (count u (found_by it) text))) same
-    (reported_as s v o old new r (all headed given) (whole headed given) count written counted part) (searches_by b zero w s by)))
+reported_for s reading b zero w v o old new r given name all whole count same named h by =
+    subst (λ (m : List ℕ). IfSome o (λ text. IsInputReported old new r (all m (options_by b zero w) (patterns_by by) text)
+    (whole m (options_by b zero w) (patterns_by by) text) (count m (options_by b zero w) (patterns_by by) text))) named
+    (subst (λ (u : OutputOptions). (it : SearchesFor s (lists_in reading u)) → IfSome o (λ text. IsInputReported old new r
+    (all given u (patterns_by it) text) (whole given u (patterns_by it) text) (count given u (patterns_by it) text))) same h
+    (searches_by reading b zero w s by))
+
+-- That record, which also depends on whether the input has a heading.
+pub reported_by : (s : Sought) (reading : Reading) (b : Binary) (zero : Bool) (w v : OutputOptions) (o old new : Option (List ℕ)) (r : Result ℕ Fault)
+    (given name : List ℕ) (headed has : Bool) (all whole : Bool → List ℕ → OutputOptions → ReadPatterns → List ℕ → List ℕ)
+    (count : List ℕ → OutputOptions → ReadPatterns → List ℕ → ℕ)
+    → v ≡ options_by b zero w → given ≡ name → headed ≡ has
+    → OnOk r ((by : SearchesFor s (lists_in reading v)) → IfSome o (λ text. Appends old new (all headed given v (patterns_by by) text)))
+    → IfOk r (λ n. (by : SearchesFor s (lists_in reading v)) → IfSome o (λ text. n ≡ count given v (patterns_by by) text))
+    → IfErr r (λ _. (by : SearchesFor s (lists_in reading v)) → IfSome o (λ text. (n : ℕ) × Appends old new (take n (whole headed given v (patterns_by by) text))))
+    → (by : SearchesFor s (lists_in reading w)) → IfSome o (λ text. IsInputReported old new r (all has name (options_by b zero w) (patterns_by by) text)
+    (whole has name (options_by b zero w) (patterns_by by) text) (count name (options_by b zero w) (patterns_by by) text))
+reported_by s reading b zero w v o old new r given name headed has all whole count same named is written counted part by =
+    subst (λ (h : Bool). IfSome o (λ text. IsInputReported old new r (all h name (options_by b zero w) (patterns_by by) text)
+    (whole h name (options_by b zero w) (patterns_by by) text) (count name (options_by b zero w) (patterns_by by) text))) is
+    (reported_for s reading b zero w v o old new r given name (all headed) (whole headed) count same named
+    (reported_as o old new r (λ it. all headed given v (patterns_by it)) (λ it. whole headed given v (patterns_by it))
+    (λ it. count given v (patterns_by it)) written counted part) by)
 
 -- What holds of all that is searched of an input holds by its first bytes and the others.
 pub if_searched : (P : Bool → List ℕ → Type 0) (b given : Binary) (zero made : Bool) (first : List ℕ) (rest whole : Option (List ℕ))

@@ -13,8 +13,11 @@ use Rattle.grep_core.specs.declared.output_options.Print.TheVariants.{Lines, Mat
 use Rattle.grep_core.specs.declared.output_options.GroupSeparator.{GroupSeparator}
 use Rattle.grep_core.specs.declared.output_options.OutputOptions.{OutputOptions}
 use Rattle.hirgrep_main.specs.Binaries.{binary_by}
+use Rattle.hirgrep_main.specs.Readings.{dot_matches_feeds, most_given, reading_given}
 use Rattle.hirgrep_main.specs.SmartCase.{ignores_case}
 use Rattle.hirgrep_main.specs.declared.asked.Asked.{Asked}
+use Rattle.hirgrep_main.specs.declared.binary.Binary.{Binary}
+use Rattle.hirgrep_main.specs.declared.binary.Binary.TheVariants.{AsText}
 use Rattle.hirgrep_main.specs.declared.asked.Devices.{Devices}
 use Rattle.hirgrep_main.specs.declared.asked.Devices.TheVariants.{ReadAll, ReadNamed, SkipAll}
 use Rattle.hirgrep_main.specs.declared.asked.Directories.{Directories}
@@ -23,7 +26,7 @@ use Rattle.hirgrep_main.specs.declared.asked.Names.{Names}
 use Rattle.hirgrep_main.specs.declared.asked.Texts.{Texts}
 use Rattle.hirgrep_main.specs.declared.asked.Names.TheVariants.{Always, Never, IfSeveral}
 
--- -F, -i, -x, -w, --crlf: how patterns are interpreted.
+-- -F, -i, -x, -w, --crlf, --multiline, -z, --multiline-dotall: how patterns are interpreted.
 abbrev pub how_of : Found → PatternOptions
 how_of f = record {
   fixed = is_set f (codes "fixed-strings");
@@ -31,12 +34,12 @@ how_of f = record {
   lines = is_set f (codes "line-regexp");
   words = is_set f (codes "word-regexp");
   crlf = is_set f (codes "crlf");
-  text = false;
-  null = false;
+  text = is_set f (codes "multiline");
+  null = dot_matches_feeds f;
 }
 
 -- -q, -L, -l, -c, --count-matches, -o: of several options, the one that prints least takes effect. Of -c and --count-matches the later one
--- has turned off the other. Lines that -v selects have no matches, and are counted themselves.
+-- has turned off the other. Lines that -v selects have no matches, and are counted themselves. With --json, -o changes nothing.
 abbrev pub print_of : Found → Print
 print_of f =
     if is_set f (codes "quiet") then Nothing
@@ -44,7 +47,7 @@ print_of f =
     else if is_set f (codes "files-with-matches") then NameIfAny
     else if is_set f (codes "count") then Count
     else if is_set f (codes "count-matches") then (if is_set f (codes "invert-match") then Count else CountMatches)
-    else if is_set f (codes "only-matching") then Matches
+    else if is_set f (codes "only-matching") && not (is_set f (codes "json")) then Matches
     else Lines
 
 -- The numbers of lines before and after each selected line, if either is asked for.
@@ -75,10 +78,10 @@ color_of f is_colorful =
     if is_some (first_value f (codes "color")) then color_by (first_value f (codes "color")) is_colorful
     else is_set f (codes "pretty") && not (is_set f (codes "vimgrep"))
 
--- --heading, -p, --no-heading, --vimgrep: the name of a file is printed once above its lines. The last two take precedence.
+-- --heading, -p, --no-heading, --vimgrep, --json: the name of a file is printed once above its lines. The last three take precedence.
 abbrev pub has_heading : Found → Bool
 has_heading f =
-    if is_set f (codes "no-heading") || is_set f (codes "vimgrep") then false
+    if is_set f (codes "no-heading") || (is_set f (codes "vimgrep") || is_set f (codes "json")) then false
     else is_set f (codes "heading") || is_set f (codes "pretty")
 
 -- -h, -H, --vimgrep
@@ -111,11 +114,12 @@ group_given f =
     if is_set f (codes "no-group-separator") || is_set f (codes "passthru") then None
     else Some (unwrap_or (first_value f (codes "group-separator")) (codes "--"))
 
--- -n, -p, --column, --vimgrep, -N: numbers of lines are printed. The last one takes precedence, and has turned off -n.
+-- -n, -p, --column, --vimgrep, --json, -N: numbers of lines are printed. The last one takes precedence, and has turned off -n.
 abbrev pub has_numbers : Found → Bool
 has_numbers f =
     not (is_set f (codes "no-line-number"))
-    && (is_set f (codes "line-number") || is_set f (codes "pretty") || is_set f (codes "column") || is_set f (codes "vimgrep"))
+    && (is_set f (codes "line-number") || is_set f (codes "pretty") || is_set f (codes "column") || is_set f (codes "vimgrep")
+    || is_set f (codes "json"))
 
 -- --column, --vimgrep, --no-column: columns are printed. The last one takes precedence.
 abbrev pub has_columns : Found → Bool
@@ -126,9 +130,19 @@ abbrev pub most_bytes_by : Option ℕ → Option ℕ
 most_bytes_by None = None
 most_bytes_by (Some n) = if nat_lt 0 n then Some n else None
 
--- --replace: the template by which matches are replaced, if it is given.
+-- --replace: the template by which matches are replaced, if it is given. With --json nothing is replaced.
 abbrev pub template_given : Found → Option (List ℕ)
-template_given f = first_value f (codes "replace")
+template_given f = if is_set f (codes "json") then None else first_value f (codes "replace")
+
+-- -z: the byte that ends lines.
+abbrev pub terminator_given : Found → ℕ
+terminator_given f = if is_set f (codes "null-data") then 0 else 10
+
+-- --binary-files, -I, -z: what is printed of inputs with zero bytes. With the last one these end records, and every input is text.
+abbrev pub binary_given : Found → Binary
+binary_given f =
+    if is_set f (codes "null-data") then AsText
+    else binary_by (first_value f (codes "binary-files")) (is_set f (codes "skip-binary"))
 
 -- --color, with these colours
 abbrev pub colors_of : Found → Bool → Colors → Option Colors
@@ -157,16 +171,16 @@ what_of f is_colorful texts groups replacement = record {
   width = 0;
   groups = groups;
   replacement = replacement;
-  terminator = 10;
+  terminator = terminator_given f;
 }
 
--- -S, -R, -s, --stats, and what is above
+-- -S, -R, -s, --stats, --max-size, and what is above
 abbrev pub asked_of : Found → Bool → Texts → GroupSeparator → Option (Bor (List ℕ)) → Asked
 asked_of f is_colorful texts groups replacement = record {
   how = how_of f;
   smart_case = is_set f (codes "smart-case");
   what = what_of f is_colorful texts groups replacement;
-  binary = binary_by (first_value f (codes "binary-files")) (is_set f (codes "skip-binary"));
+  binary = binary_given f;
   names = asked_names f;
   directories = directories_by (first_value f (codes "directories"))
       (is_set f (codes "recursive") || is_set f (codes "dereference-recursive"));
@@ -176,6 +190,8 @@ asked_of f is_colorful texts groups replacement = record {
   stats = is_set f (codes "stats");
   reports_input = is_set f (codes "report-input");
   heading = has_heading f;
+  reading = reading_given f;
+  most_read = most_given f;
   path_separator = texts.path_separator;
 }
 

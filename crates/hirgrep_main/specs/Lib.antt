@@ -6,9 +6,11 @@ pub mod Given
 pub mod GrepColors
 pub mod Ignores
 pub mod Outcomes
+pub mod Readings
 pub mod Selecting
 pub mod SmartCase
 pub mod Tasks
 pub mod Texts
+pub mod Totals
 pub mod TypeChanges
 pub mod Walking

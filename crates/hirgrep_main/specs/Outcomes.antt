@@ -6,6 +6,8 @@ use Rattle.grep_core.specs.declared.separator_state.SeparatorState.{SeparatorSta
 use Rattle.grep_core.specs.declared.separator_state.SeparatorState.TheVariants.{NonePrinted, EarlierPrinted}
 use Rattle.grep_core.specs.declared.output_options.Print.{Print}
 use Rattle.hirgrep_main.specs.Decisions.{counted, prints_nothing}
+use Rattle.json_events.specs.declared.stats.Stats.{Stats}
+use Rattle.text_report.specs.Events.{no_stats}
 use Rattle.hirgrep_main.specs.declared.outcome.Outcome.{Outcome}
 
 -- The outcome before the first file.
@@ -18,6 +20,7 @@ no_outcome = record {
   files = 0;
   bytes = 0;
   lines = 0;
+  totals = no_stats;
 }
 
 -- The outcome after a failure.
@@ -27,6 +30,10 @@ with_failure o = record o { failed = true }
 -- The outcome after a file from which this many bytes were read.
 abbrev pub with_file : Outcome → ℕ → Outcome
 with_file o n = record o { files = counted o.files 1; bytes = counted o.bytes n }
+
+-- The outcome with another sum of what was searched.
+abbrev pub with_totals : Outcome → Stats → Outcome
+with_totals o s = record o { totals = s }
 
 -- The outcome after a file of which this many lines were selected.
 abbrev pub with_lines : Outcome → ℕ → Outcome

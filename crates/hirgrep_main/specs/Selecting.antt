@@ -83,12 +83,15 @@ types_given f rows = named_types true rows (values_given f (codes "type")) ++ na
 abbrev pub gives_types : Found → List TypeRow → Bool
 gives_types f rows = are_types rows (values_given f (codes "type")) && are_types rows (values_given f (codes "type-not"))
 
--- The greatest size of a file that is searched, and whether none is given that can't be read.
+-- The greatest size of a file that is searched, and whether no size is given that can't be read.
 abbrev pub size_given : Found → Option ℕ
 size_given f = option_and_then size_of (first_value f (codes "max-filesize"))
 
+abbrev pub is_size_given : Found → List ℕ → Bool
+is_size_given f name = is_none (first_value f name) || is_some (option_and_then size_of (first_value f name))
+
 abbrev pub gives_size : Found → Bool
-gives_size f = is_none (first_value f (codes "max-filesize")) || is_some (size_given f)
+gives_size f = is_size_given f (codes "max-filesize") && is_size_given f (codes "max-size")
 
 -- ---- what chooses files
 

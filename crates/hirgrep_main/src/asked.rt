@@ -4,9 +4,11 @@ ghost use Rattle.clap.specs.Words.{first_value, found_of};
 ghost use Rattle.grep_core.specs.Printing.{group_text};
 ghost use Rattle.grep_options.specs.Options.{is_set};
 ghost use Rattle.hirgrep_main.specs.Asks.{all_lines, asked_names, asked_of, color_of, colors_of, context_by, context_of, devices_by, directories_by, how_of};
-ghost use Rattle.hirgrep_main.specs.Asks.{group_given, has_columns, has_heading, has_numbers, most_bytes_by, print_of, template_given, what_of};
+ghost use Rattle.hirgrep_main.specs.Asks.{binary_given, group_given, has_columns, has_heading, has_numbers, most_bytes_by, print_of, template_given, terminator_given, what_of};
+ghost use Rattle.hirgrep_main.specs.Readings.{dot_matches_feeds, most_given, reading_given};
 
 use crate::binary::{Binary, binary_of};
+use crate::reading::{Reading, dot_matches_feeds, most_given, reading_given};
 use clap::ArgMatches;
 use grep_core::{Colors, Context, GroupSeparator, OutputOptions, Print};
 use grep_options::{is_set, limit, number};
@@ -80,6 +82,10 @@ pub struct Asked<'a> {
     pub reports_input: bool,
     /// Prints the name of a file once above its lines.
     pub heading: bool,
+    /// How inputs are read.
+    pub reading: Reading,
+    /// The greatest number of bytes of an input that is read as a whole.
+    pub most_read: u64,
     /// The text that is printed instead of each slash in names, if it is given.
     pub path_separator: Option<&'a str>,
 }
@@ -94,8 +100,8 @@ fn how_of(matches: &ArgMatches<'_>) -> PatternOptions
         lines: is_set(matches, "line-regexp"),
         words: is_set(matches, "word-regexp"),
         crlf: is_set(matches, "crlf"),
-        text: false,
-        null: false,
+        text: is_set(matches, "multiline"),
+        null: dot_matches_feeds(matches),
     }
 }
 
@@ -130,7 +136,7 @@ fn print_of(matches: &ArgMatches<'_>) -> Print
     if is_set(matches, "count-matches") {
         return counted_print(matches);
     }
-    if is_set(matches, "only-matching") {
+    if is_set(matches, "only-matching") && !is_set(matches, "json") {
         return Print::Matches;
     }
     Print::Lines
@@ -196,10 +202,11 @@ pub fn color_of(matches: &ArgMatches<'_>, is_colorful: bool) -> bool
 }
 
 /// Whether the name of a file is printed once above its lines. Of `--heading` and `--no-heading`, the later one has turned off the other.
+/// With `--json` there are no lines.
 fn has_heading(matches: &ArgMatches<'_>) -> bool
     ensures { result ≡ has_heading (found_of matches.now) }
 {
-    if is_set(matches, "no-heading") || is_set(matches, "vimgrep") {
+    if is_set(matches, "no-heading") || is_set(matches, "vimgrep") || is_set(matches, "json") {
         return false;
     }
     is_set(matches, "heading") || is_set(matches, "pretty")
@@ -273,17 +280,20 @@ pub fn groups_of<'a>(matches: &ArgMatches<'a>) -> GroupSeparator<'a>
     }
 }
 
-/// The template by which matches are replaced, if it is given.
+/// The template by which matches are replaced, if it is given. With `--json` nothing is replaced.
 pub fn template_of<'a>(matches: &ArgMatches<'a>) -> Option<&'a [u8]>
     ensures { option_map (λ t. t.now) result ≡ template_given (found_of matches.now) }
 {
+    if is_set(matches, "json") {
+        return None;
+    }
     match matches.get_str("replace") {
         Some(text) => Some(text.as_bytes()),
         None => None,
     }
 }
 
-/// Whether the numbers of lines are printed. Of `-n` and `-N`, the later one has turned off the other.
+/// Whether the numbers of lines are printed. Of `-n` and `-N`, the later one has turned off the other. `--json` asks for them too.
 fn has_numbers(matches: &ArgMatches<'_>) -> bool
     ensures { result ≡ has_numbers (found_of matches.now) }
 {
@@ -294,6 +304,7 @@ fn has_numbers(matches: &ArgMatches<'_>) -> bool
         || is_set(matches, "pretty")
         || is_set(matches, "column")
         || is_set(matches, "vimgrep")
+        || is_set(matches, "json")
 }
 
 /// Whether columns are printed. Of `--column` and `--no-column`, the later one has turned off the other.
@@ -331,6 +342,17 @@ fn most_bytes_by(given: Option<u64>) -> Option<u64>
     }
 }
 
+/// The byte that ends lines.
+fn terminator_given(matches: &ArgMatches<'_>) -> u8
+    ensures { result ≡ terminator_given (found_of matches.now) }
+{
+    if is_set(matches, "null-data") {
+        0
+    } else {
+        b'\n'
+    }
+}
+
 /// What is printed for each input. The width of numbers depends on the input, and is 0 here.
 fn what_of<'a>(
     matches: &ArgMatches<'_>,
@@ -361,8 +383,18 @@ fn what_of<'a>(
         width: 0,
         groups,
         replacement,
-        terminator: b'\n',
+        terminator: terminator_given(matches),
     }
+}
+
+/// What is printed of inputs with zero bytes. With `-z` these end records, and every input is text.
+fn binary_given(matches: &ArgMatches<'_>) -> Binary
+    ensures { result ≡ binary_given (found_of matches.now) }
+{
+    if is_set(matches, "null-data") {
+        return Binary::AsText;
+    }
+    binary_of(matches)
 }
 
 /// What the options ask for. `is_colorful` says whether standard output is a terminal that supports colours.
@@ -379,7 +411,7 @@ pub fn asked_of<'a>(
         how: how_of(matches),
         smart_case: is_set(matches, "smart-case"),
         what: what_of(matches, is_colorful, texts, groups, replacement),
-        binary: binary_of(matches),
+        binary: binary_given(matches),
         names: names_of(matches),
         directories: directories_of(matches),
         follows: is_set(matches, "dereference-recursive"),
@@ -388,6 +420,8 @@ pub fn asked_of<'a>(
         stats: is_set(matches, "stats"),
         reports_input: is_set(matches, "report-input"),
         heading: has_heading(matches),
+        reading: reading_given(matches),
+        most_read: most_given(matches),
         path_separator: texts.path_separator,
     }
 }

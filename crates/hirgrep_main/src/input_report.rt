@@ -1,10 +1,10 @@
 //! The report of one input.
 ghost use Rattle.std.specs.Prelude.{◌≡◌, ◌++◌, IfSome};
-ghost use Rattle.grep_core.specs.Reporting.{needs_spans};
-ghost use Rattle.line_search.specs.Searchers.{SearchesFor, found_by};
+ghost use Rattle.hirgrep_main.specs.Readings.{lists_matches};
+ghost use Rattle.line_search.specs.Searchers.{SearchesFor};
 ghost use Rattle.hirgrep_main.specs.Binaries.{has_zero, searched_bytes};
 ghost use Rattle.hirgrep_main.specs.Texts.{printed_name, without_controls};
-ghost use Rattle.hirgrep_main.specs.Tasks.{IsInputReported, count_for, count_of, report_for, report_in, whole_report_for, whole_report_in};
+ghost use Rattle.hirgrep_main.specs.Tasks.{IsInputReported, count_for, count_of, patterns_by, report_for, report_in, whole_report_for, whole_report_in};
 
 use crate::binary::{Binary, is_noticed};
 use crate::first_bytes::{Searched, has_zero, read_first};
@@ -14,6 +14,7 @@ use crate::reporting::report_reader;
 use crate::shown::without_controls;
 use crate::task::Task;
 use grep_core::Headed;
+use json_events::Stats;
 use line_search::{Fault, Finder};
 use std::io::{Read, Write};
 use std::rt::Runtime;
@@ -41,15 +42,16 @@ fn report_first<R: Read, W: Write>(
     first: &[u8],
     reader: &mut R,
     writer: &mut Headed<W>,
+    totals: &mut Stats,
 ) -> Result<u64, Fault>
     ensures same { finder.new ≡ finder.old }
-    ensures reported { (by : SearchesFor finder.old (needs_spans task.entry.asked.now.what)) → IfSome (R.remaining reader.old) (λ text.
+    ensures reported { (by : SearchesFor finder.old (lists_matches task.entry.asked.now)) → IfSome (R.remaining reader.old) (λ text.
         IsInputReported (W.contents writer.old.writer) (W.contents writer.new.writer) result
-        (report_for task.entry (has_zero first.now) outcome (found_by by) name.now
+        (report_for task.entry.asked.now.reading task.entry (has_zero first.now) outcome (patterns_by by) name.now
         (searched_bytes task.entry.asked.now.binary (has_zero first.now) (first.now ++ text)))
-        (whole_report_for task.entry (has_zero first.now) outcome (found_by by) name.now
+        (whole_report_for task.entry.asked.now.reading task.entry (has_zero first.now) outcome (patterns_by by) name.now
         (searched_bytes task.entry.asked.now.binary (has_zero first.now) (first.now ++ text)))
-        (count_for task.entry (has_zero first.now) (found_by by)
+        (count_for task.entry.asked.now.reading task.entry (has_zero first.now) (patterns_by by) name.now
         (searched_bytes task.entry.asked.now.binary (has_zero first.now) (first.now ++ text)))) }
 {
     let zero = has_zero(first);
@@ -63,6 +65,7 @@ fn report_first<R: Read, W: Write>(
         name,
         &mut whole,
         writer,
+        totals,
     );
     report_notice(rt, task, name, zero, reported);
     reported
@@ -77,12 +80,13 @@ fn report_binary<R: Read, W: Write>(
     name: &str,
     reader: &mut R,
     writer: &mut Headed<W>,
+    totals: &mut Stats,
 ) -> Result<u64, Fault>
     ensures same { finder.new ≡ finder.old }
-    ensures reported { (by : SearchesFor finder.old (needs_spans task.entry.asked.now.what)) → IfSome (R.remaining reader.old) (λ text.
+    ensures reported { (by : SearchesFor finder.old (lists_matches task.entry.asked.now)) → IfSome (R.remaining reader.old) (λ text.
         IsInputReported (W.contents writer.old.writer) (W.contents writer.new.writer) result
-        (report_in task.entry outcome (found_by by) name.now text) (whole_report_in task.entry outcome (found_by by) name.now text)
-        (count_of task.entry (found_by by) text)) }
+        (report_in task.entry outcome (patterns_by by) name.now text) (whole_report_in task.entry outcome (patterns_by by) name.now text)
+        (count_of task.entry (patterns_by by) name.now text)) }
 {
     match read_first(rt.alloc(), reader) {
         Ok(first) => report_first(
@@ -94,6 +98,7 @@ fn report_binary<R: Read, W: Write>(
             first.as_slice(),
             reader,
             writer,
+            totals,
         ),
         Err(e) => Err(Fault::Read(e.kind())),
     }
@@ -109,12 +114,13 @@ fn report_named<R: Read, W: Write>(
     name: &str,
     reader: &mut R,
     writer: &mut Headed<W>,
+    totals: &mut Stats,
 ) -> Result<u64, Fault>
     ensures same { finder.new ≡ finder.old }
-    ensures reported { (by : SearchesFor finder.old (needs_spans task.entry.asked.now.what)) → IfSome (R.remaining reader.old) (λ text.
+    ensures reported { (by : SearchesFor finder.old (lists_matches task.entry.asked.now)) → IfSome (R.remaining reader.old) (λ text.
         IsInputReported (W.contents writer.old.writer) (W.contents writer.new.writer) result
-        (report_in task.entry outcome (found_by by) name.now text) (whole_report_in task.entry outcome (found_by by) name.now text)
-        (count_of task.entry (found_by by) text)) }
+        (report_in task.entry outcome (patterns_by by) name.now text) (whole_report_in task.entry outcome (patterns_by by) name.now text)
+        (count_of task.entry (patterns_by by) name.now text)) }
 {
     match task.asked.binary {
         Binary::AsText => report_reader(
@@ -126,8 +132,9 @@ fn report_named<R: Read, W: Write>(
             name,
             reader,
             writer,
+            totals,
         ),
-        _ => report_binary(rt, finder, task, outcome, name, reader, writer),
+        _ => report_binary(rt, finder, task, outcome, name, reader, writer, totals),
     }
 }
 
@@ -140,16 +147,26 @@ fn report_hidden<R: Read, W: Write>(
     name: &str,
     reader: &mut R,
     writer: &mut Headed<W>,
+    totals: &mut Stats,
 ) -> Result<u64, Fault>
     ensures same { finder.new ≡ finder.old }
-    ensures reported { (by : SearchesFor finder.old (needs_spans task.entry.asked.now.what)) → IfSome (R.remaining reader.old) (λ text.
+    ensures reported { (by : SearchesFor finder.old (lists_matches task.entry.asked.now)) → IfSome (R.remaining reader.old) (λ text.
         IsInputReported (W.contents writer.old.writer) (W.contents writer.new.writer) result
-        (report_in task.entry outcome (found_by by) (without_controls name.now) text)
-        (whole_report_in task.entry outcome (found_by by) (without_controls name.now) text)
-        (count_of task.entry (found_by by) text)) }
+        (report_in task.entry outcome (patterns_by by) (without_controls name.now) text)
+        (whole_report_in task.entry outcome (patterns_by by) (without_controls name.now) text)
+        (count_of task.entry (patterns_by by) (without_controls name.now) text)) }
 {
     match without_controls(rt.alloc(), name) {
-        Ok(shown) => report_named(rt, finder, task, outcome, shown.as_str(), reader, writer),
+        Ok(shown) => report_named(
+            rt,
+            finder,
+            task,
+            outcome,
+            shown.as_str(),
+            reader,
+            writer,
+            totals,
+        ),
         Err(_) => Err(Fault::NoMemory),
     }
 }
@@ -163,16 +180,17 @@ pub fn report_one<R: Read, W: Write>(
     name: &str,
     reader: &mut R,
     writer: &mut Headed<W>,
+    totals: &mut Stats,
 ) -> Result<u64, Fault>
     ensures same { finder.new ≡ finder.old }
-    ensures reported { (by : SearchesFor finder.old (needs_spans task.entry.asked.now.what)) → IfSome (R.remaining reader.old) (λ text.
+    ensures reported { (by : SearchesFor finder.old (lists_matches task.entry.asked.now)) → IfSome (R.remaining reader.old) (λ text.
         IsInputReported (W.contents writer.old.writer) (W.contents writer.new.writer) result
-        (report_in task.entry outcome (found_by by) (printed_name task.entry.hides_controls name.now) text)
-        (whole_report_in task.entry outcome (found_by by) (printed_name task.entry.hides_controls name.now) text)
-        (count_of task.entry (found_by by) text)) }
+        (report_in task.entry outcome (patterns_by by) (printed_name task.entry.hides_controls name.now) text)
+        (whole_report_in task.entry outcome (patterns_by by) (printed_name task.entry.hides_controls name.now) text)
+        (count_of task.entry (patterns_by by) (printed_name task.entry.hides_controls name.now) text)) }
 {
     if task.hides_controls {
-        return report_hidden(rt, finder, task, outcome, name, reader, writer);
+        return report_hidden(rt, finder, task, outcome, name, reader, writer, totals);
     }
-    report_named(rt, finder, task, outcome, name, reader, writer)
+    report_named(rt, finder, task, outcome, name, reader, writer, totals)
 }

@@ -159,6 +159,8 @@ fn report_cause(rt: &HostRuntime, name: &str, kind: ErrorKind, code: Option<i32>
 /// Reports why the input with this name isn't searched to its end.
 pub fn report_fault(rt: &HostRuntime, name: &str, fault: Fault, causes: Causes) {
     let said = match fault {
+        Fault::Read(ErrorKind::FileTooLarge) if causes.read.is_none() =>
+            "more bytes than --max-size allows, 1G by default",
         Fault::Read(kind) => return report_cause(rt, name, kind, causes.read),
         Fault::Write(kind) => return report_cause(rt, "write error", kind, causes.write),
         Fault::NoMemory => "out of memory",

@@ -1,15 +1,18 @@
 //! The outcome of a search.
-ghost use Rattle.std.specs.Prelude.{◌≡◌, nat_lt};
+ghost use Rattle.std.specs.Prelude.{◌≡◌, OnOk, nat_lt};
 ghost use Rattle.hirgrep_main.specs.Decisions.{prints_nothing, status};
-ghost use Rattle.hirgrep_main.specs.Outcomes.{after_result, after_search, is_of_output, known_of, no_outcome};
+ghost use Rattle.hirgrep_main.specs.Outcomes.{Continues, after_result, after_search, is_of_output, known_of, no_outcome};
 ghost use Rattle.hirgrep_main.specs.Outcomes.{with_failure, with_file, with_lines};
 
 use crate::asked::Asked;
-use crate::messages::{Causes, report_error, report_fault, report_reason};
+use crate::messages::{Causes, report_error, report_fault, report_output, report_reason};
+use crate::totals::{no_stats, no_time};
 use grep_core::{Print, SeparatorState};
+use json_events::{Stats, push_summary};
 use line_search::{Fault, Finder};
+use std::alloc::AllocError;
 use std::io;
-use std::io::ErrorKind;
+use std::io::{ErrorKind, Write};
 use std::rt::Runtime;
 
 /// The outcome of the files so far.
@@ -29,6 +32,8 @@ pub struct Outcome {
     pub bytes: u64,
     /// How many lines were selected. If all that is asked of a file is whether it has one, at most one is counted for it.
     pub lines: u64,
+    /// What was searched and printed as JSON.
+    pub totals: Stats,
 }
 
 /// Whether the fault is that output can't be written.
@@ -73,6 +78,7 @@ impl Outcome {
             files: 0,
             bytes: 0,
             lines: 0,
+            totals: no_stats(),
         }
     }
 
@@ -200,6 +206,22 @@ impl Outcome {
             return 2;
         }
         if self.selected { 0 } else { 1 }
+    }
+
+    /// Prints the sum of what was searched, as JSON, unless the output can't be written.
+    pub fn write_summary(&mut self, rt: &HostRuntime) -> Result<(), AllocError>
+        ensures { OnOk result (Continues self.old self.new) }
+    {
+        if self.ended {
+            return Ok(());
+        }
+        let mut text = Vec::new(rt.alloc());
+        push_summary(rt.alloc(), &mut text, self.totals, no_time())?;
+        if let Err(error) = rt.stdout().write_all(&text) {
+            report_output(rt, &error);
+            self.failed = true;
+        }
+        Ok(())
     }
 
     /// Prints the statistics of the searches to standard error.

@@ -1,17 +1,14 @@
 //! Which files are searched, by the options on their names and paths.
-ghost use Rattle.std.specs.Prelude.{◌≡◌, ◌≤◌, ◌++◌, ◌∷◌, [], ℕ, true, false, List, None, IfErr, IfOk, IfSome, OnOk, codes, is_none, is_some, length, map, nat_eq, string_bytes};
+ghost use Rattle.std.specs.Prelude.{◌≡◌, ◌++◌, ◌∷◌, [], ℕ, true, false, List, None, IfOk, IfSome, OnOk, codes, is_none, is_some, length, map};
 ghost use Rattle.std.specs.List.{list_any};
-ghost use Rattle.std.specs.Result.{is_ok};
-ghost use Rattle.std.specs.Cmp.Lexicographic.{pointwise};
 ghost use Rattle.std.specs.Str.{chars};
 ghost use Rattle.clap.specs.Words.{first_value, found_of};
-ghost use Rattle.globs.specs.Ignoring.{ignore_rules};
 ghost use Rattle.globs.specs.Paths.{without_dot};
-ghost use Rattle.globs.specs.Rules.{Rule as AnyRule, begins, decided, excluded, folder_rule, glob_fault, glob_rule, grep_rule, rule_of};
+ghost use Rattle.globs.specs.Rules.{Rule as AnyRule, begins, decided, folder_rule, glob_fault, glob_rule, rule_of};
 ghost use Rattle.grep_options.specs.FileOptions.{file_values, given_of};
 ghost use Rattle.grep_options.specs.Options.{is_text, values_given};
-ghost use Rattle.hirgrep_main.specs.Selecting.{AreIgnored, IsGiven, are_sound, base_len, chosen_by, depth_in, enters, excluded_lines, folder_rules, glob_rules, is_sure, names_rules, rules_for, selection, selection_given, selection_without_rules, skips_entry};
-ghost use Rattle.hirgrep_main.specs.Selecting.{gives_globs, globs_given, globs_say, ignore_files, is_ignoring, is_git_folder, skips_found, skips_ignored, skips_named, skips_type, skips_unnamed, slashes, value_rules, values_rules, with_files, with_folders, with_globs, with_ignored, with_rules, with_types};
+ghost use Rattle.hirgrep_main.specs.Selecting.{AreIgnored, IsGiven, are_sound, chosen_by, enters, folder_rules, glob_rules, is_sure, names_rules, rules_for, selection, selection_without_rules, skips_entry};
+ghost use Rattle.hirgrep_main.specs.Selecting.{gives_globs, globs_given, globs_say, ignore_files, is_ignoring, is_git_folder, skips_found, skips_ignored, skips_named, skips_type, skips_unnamed, value_rules, values_rules, with_files, with_folders, with_globs, with_ignored, with_rules, with_types};
 ghost use Rattle.hirgrep_main.specs.Selecting.{gives_size, has_type, ignores_say, is_hidden, is_keeping, is_too_large, size_given, skips_hidden};
 ghost use Rattle.hirgrep_main.specs.Ignores.{ignoring_given};
 ghost use Rattle.hirgrep_main.specs.Selecting.{are_types, gives_types, named_types, types_given};
@@ -19,18 +16,17 @@ ghost use Rattle.hirgrep_main.specs.FileTypes.{is_type, of_type, rows_of, type_r
 
 use crate::asked::Asked;
 use crate::file_types::{is_type, push_type};
-use crate::input::input;
-use crate::messages::report_error;
+use crate::path_names::{begins_with_dot, is_name};
+use crate::rule_files::{push_file, push_ignore_files, push_rule};
 use crate::shown::Shown;
+use crate::sizes::{gives_size, is_too_large, size_given};
 use clap::ArgMatches;
 use globs::{
-    Fault, FaultKind, Rule, any_selects, chars_of, chooses, decides, file_name, push_excluded,
-    push_ignore_rules, skips, without_dot,
+    Fault, FaultKind, Rule, any_selects, chars_of, chooses, decides, file_name, skips, without_dot,
 };
-use grep_options::{FileOption, FileValue, file_values, is_set, number, size_of};
+use grep_options::{FileOption, FileValue, file_values, is_set, number};
 use std::alloc::{AllocError, Global};
 use std::rt::Runtime;
-use std::{fs, io};
 
 /// Which ignore files of folders are read.
 #[derive(Clone, Copy, PartialEq, Eq)]
@@ -73,143 +69,6 @@ pub struct Selection {
     pub lists: bool,
     /// The names in a folder are put in order.
     pub sorts: bool,
-}
-
-/// Appends a rule of GNU grep's.
-fn push_rule(
-    alloc: Global,
-    rules: &mut Vec<Rule>,
-    selects: bool,
-    text: &str,
-) -> Result<(), AllocError>
-    ensures { OnOk result (map rule_of rules.new.items ≡ map rule_of rules.old.items ++ grep_rule selects (chars text.now) ∷ []) }
-{
-    let chars = chars_of(alloc, text)?;
-    let rule = Rule::of_grep(alloc, selects, &chars)?;
-    rules.push(rule)?;
-    Ok(())
-}
-
-/// Appends the rule of a line of a file of rules, if it has one.
-fn push_line(alloc: Global, rules: &mut Vec<Rule>, line: &str) -> Result<(), AllocError>
-    ensures { OnOk result (map rule_of rules.new.items ≡ map rule_of rules.old.items ++ excluded (chars line.now)) }
-{
-    let chars = chars_of(alloc, line)?;
-    push_excluded(alloc, rules, &chars)
-}
-
-/// Appends the rules in the content of a file, one a line.
-fn push_lines(alloc: Global, rules: &mut Vec<Rule>, text: &str) -> Result<(), AllocError>
-    ensures { OnOk result (map rule_of rules.new.items ≡ map rule_of rules.old.items ++ excluded_lines text.now) }
-{
-    for line in text.split('\n') {
-        push_line(alloc, rules, line)?;
-    }
-    Ok(())
-}
-
-/// The text of a file of rules. A dash is standard input.
-fn read_text(rt: &HostRuntime, asked: &Asked, name: &str) -> io::Result<String> {
-    if name == "-" {
-        return io::read_to_string(rt.alloc(), input(rt, asked));
-    }
-    fs::read_to_string(rt, name)
-}
-
-/// Appends the rules in the content of the file with this name. Returns false if it can't be read, after reporting the error.
-fn push_content(
-    rt: &HostRuntime,
-    rules: &mut Vec<Rule>,
-    name: &str,
-    content: io::Result<String>,
-) -> Result<bool, AllocError>
-    ensures read { IfOk result (λ read. read ≡ is_ok content) }
-    ensures rules { IfOk content (λ text. OnOk result
-        (map rule_of rules.new.items ≡ map rule_of rules.old.items ++ excluded_lines (string_bytes text))) }
-    ensures unread { IfErr content (λ _. OnOk result (rules.new ≡ rules.old)) }
-{
-    match content {
-        Ok(text) => {
-            push_lines(rt.alloc(), rules, text.as_str())?;
-            Ok(true)
-        }
-        Err(e) => {
-            report_error(rt, name, &e);
-            Ok(false)
-        }
-    }
-}
-
-/// Appends the rules in a file. Returns false if it can't be read, after reporting the error.
-fn push_file(
-    rt: &HostRuntime,
-    asked: &Asked,
-    rules: &mut Vec<Rule>,
-    name: &str,
-) -> Result<bool, AllocError>
-    ensures { IfOk result (λ read. read ≡ true → (content : List ℕ)
-        × (map rule_of rules.new.items ≡ map rule_of rules.old.items ++ excluded_lines content)) }
-{
-    let content = read_text(rt, asked, name);
-    push_content(rt, rules, name, content)
-}
-
-/// Appends the rules in the content of the file with this name, which is an ignore file. Returns false if it can't be read, after reporting
-/// the error.
-fn push_ignore_content(
-    rt: &HostRuntime,
-    rules: &mut Vec<Rule>,
-    name: &str,
-    content: io::Result<String>,
-) -> Result<bool, AllocError>
-    ensures read { IfOk result (λ read. read ≡ is_ok content) }
-    ensures rules { IfOk content (λ text. OnOk result
-        (map rule_of rules.new.items ≡ map rule_of rules.old.items ++ ignore_rules (string_bytes text))) }
-    ensures unread { IfErr content (λ _. OnOk result (rules.new ≡ rules.old)) }
-{
-    match content {
-        Ok(text) => {
-            push_ignore_rules(rt.alloc(), rules, text.as_str())?;
-            Ok(true)
-        }
-        Err(error) => {
-            report_error(rt, name, &error);
-            Ok(false)
-        }
-    }
-}
-
-/// Appends the rules in an ignore file. Returns false if it can't be read, after reporting the error.
-fn push_ignore_file(
-    rt: &HostRuntime,
-    asked: &Asked,
-    rules: &mut Vec<Rule>,
-    name: &str,
-) -> Result<bool, AllocError>
-    ensures { IfOk result (λ read. read ≡ true → (content : List ℕ)
-        × (map rule_of rules.new.items ≡ map rule_of rules.old.items ++ ignore_rules content)) }
-{
-    let content = read_text(rt, asked, name);
-    push_ignore_content(rt, rules, name, content)
-}
-
-/// Appends the rules in ignore files. Returns false if one can't be read, after reporting the error.
-fn push_ignore_files(
-    rt: &HostRuntime,
-    asked: &Asked,
-    rules: &mut Vec<Rule>,
-    names: &[&str],
-) -> Result<bool, AllocError>
-    ensures rules { IfOk result (λ read. read ≡ true → AreIgnored (map rule_of rules.old.items) (map rule_of rules.new.items)
-        (length (map (λ n. n.now) names.now))) }
-    ensures sure { IfOk result (λ read. length (map (λ n. n.now) names.now) ≡ 0 → read ≡ true) }
-{
-    for name in names {
-        if !push_ignore_file(rt, asked, rules, name)? {
-            return Ok(false);
-        }
-    }
-    Ok(true)
 }
 
 /// Appends the rules of a value. Returns false if it names a file that can't be read, after reporting the error.
@@ -396,33 +255,6 @@ fn ignoring_of(matches: &ArgMatches<'_>) -> Ignoring
         parents: !is_set(matches, "no-ignore-parent"),
         needs_tree: !is_set(matches, "no-require-git"),
     }
-}
-
-/// The greatest size of a file that is searched, if it is given.
-fn size_given(matches: &ArgMatches<'_>) -> Option<u64>
-    ensures { result ≡ size_given (found_of matches.now) }
-{
-    match matches.get_str("max-filesize") {
-        Some(text) => size_of(text),
-        None => None,
-    }
-}
-
-/// Whether no size is given that can't be read. If one is, this is reported.
-fn gives_size(rt: &HostRuntime, matches: &ArgMatches<'_>) -> bool
-    ensures { result ≡ gives_size (found_of matches.now) }
-{
-    let Some(text) = matches.get_str("max-filesize") else {
-        return true;
-    };
-    let is_size = size_of(text).is_some();
-    if !is_size {
-        let text = Shown(text);
-        let _ = eprintln!(rt;
-            "hirgrep: size {text}: this isn't digits, and then at most one of K, M and G, for less than 2^64 bytes"
-        );
-    }
-    is_size
 }
 
 /// The files of `--ignore-file`, unless they don't count.
@@ -775,12 +607,6 @@ impl Selection {
     }
 }
 
-fn is_name(name: &[char], known: &[char]) -> bool
-    ensures { result ≡ pointwise nat_eq name.now known.now }
-{
-    name == known
-}
-
 /// What rules that choose files say of a path of which this is known.
 fn chosen_by(known: Option<bool>, rules: &[Rule], is_folder: bool) -> Option<bool>
     ensures { result ≡ chosen_by known (map rule_of rules.now) is_folder }
@@ -792,25 +618,6 @@ fn chosen_by(known: Option<bool>, rules: &[Rule], is_folder: bool) -> Option<boo
         } else {
             None
         },
-    }
-}
-
-fn begins_with_dot(name: &[char]) -> bool
-    ensures { result ≡ begins 46 name.now }
-{
-    match name.first() {
-        Some(first) => *first == '.',
-        None => false,
-    }
-}
-
-/// Whether a file has more bytes than a file may have.
-fn is_too_large(most: Option<u64>, size: Option<u64>) -> bool
-    ensures { result ≡ is_too_large most size }
-{
-    match (most, size) {
-        (Some(most), Some(size)) => most < size,
-        _ => false,
     }
 }
 
@@ -831,42 +638,6 @@ fn is_ignoring(known: Option<bool>) -> bool
     match known {
         Some(is) => is,
         None => false,
-    }
-}
-
-/// How many bytes a path has without the slashes at its end.
-pub fn base_len(path: &str) -> usize
-    ensures len { result ≡ base_len path.now }
-    ensures within { result ≤ length path.now }
-{
-    let mut kept = 0;
-    for (at, byte) in path.as_bytes().iter().enumerate() {
-        kept = if *byte == b'/' { kept } else { at + 1 };
-    }
-    kept
-}
-
-/// How many slashes there are in a part of a path.
-fn slashes(part: &[u8]) -> usize
-    ensures count { result ≡ slashes part.now }
-    ensures within { result ≤ length part.now }
-{
-    let mut count = 0;
-    for byte in part {
-        if *byte == b'/' {
-            count += 1;
-        }
-    }
-    count
-}
-
-/// How deep a path is in the folder at `root`, in which it was found: 1 for an entry of that folder.
-pub fn depth_in(root: &str, path: &str) -> usize
-    ensures { result ≡ depth_in root.now path.now }
-{
-    match path.as_bytes().get(base_len(root)..) {
-        Some(part) => slashes(part),
-        None => 0,
     }
 }
 

@@ -7,7 +7,7 @@ ghost use Rattle.hirgrep_main.specs.Walking.{is_entry, joined};
 
 use crate::messages::warn_of_loop;
 use crate::outcome::Outcome;
-use crate::selecting_files::{base_len, depth_in};
+use crate::path_names::{base_len, depth_in};
 use crate::task::{Task, shown_name};
 use std::alloc::{AllocError, Global};
 use std::fs::Metadata;

@@ -15,4 +15,5 @@ returns c =
     let nine = joined eight c.in_ok-push_binary.ensures in
     let ten = joined nine c.in_ok-push_accepted.ensures in
     let eleven = joined ten c.in_ok-push_format.ensures in
-    on_ok_weaker c.push_others.result (λ p. joined eleven p) c.push_others.ensures
+    let inputs = joined eleven c.in_ok-push_inputs.ensures in
+    on_ok_weaker c.push_others.result (λ p. joined inputs p) c.push_others.ensures

@@ -1,7 +1,6 @@
 use Rattle.std.proofs.Common.{◌∙◌, ℕ, List, subst}
 use Rattle.std.specs.Prelude.{IfSome}
-use Rattle.line_search.specs.Searchers.{found_by}
-use Rattle.hirgrep_main.specs.Tasks.{IsInputReported, count_of, report_in, whole_report_in}
+use Rattle.hirgrep_main.specs.Tasks.{IsInputReported, count_of, patterns_by, report_in, whole_report_in}
 use Rattle.hirgrep_main.proofs.ReportLemmas.{if_any, nothing_written}
 use Rattle.hirgrep_main.proofs.input_report.report_hidden.Goals as goal
 
@@ -9,8 +8,8 @@ pub returns-in-Ok-clause-reported : goal.returns-in-Ok-clause-reported
 returns-in-Ok-clause-reported g c = λ by.
     subst (λ (name : List ℕ). IfSome (g.R.Read.remaining c.args.reader.now) (λ text.
     IsInputReported (g.W.Write.contents c.args.writer.now.writer) (g.W.Write.contents c.report_named.new.writer.writer) c.report_named.result
-    (report_in c.args.task c.args.outcome (found_by by) name text) (whole_report_in c.args.task c.args.outcome (found_by by) name text)
-    (count_of c.args.task (found_by by) text)))
+    (report_in c.args.task c.args.outcome (patterns_by by) name text) (whole_report_in c.args.task c.args.outcome (patterns_by by) name text)
+    (count_of c.args.task (patterns_by by) name text)))
     (c.as_str.ensures.value ∙ c.in-Ok.ensures) (c.report_named.ensures.reported by)
 
 pub returns-in-Err-clause-reported : goal.returns-in-Err-clause-reported

@@ -1,0 +1,100 @@
+//! What is decided from the options alone.
+ghost use Rattle.std.specs.Prelude.{◌≡◌, true, false, None};
+ghost use Rattle.hirgrep_main.specs.Decisions.{is_most, may_run_on, prints_all, prints_names_if_none, reads_found, reads_named, selects_none};
+ghost use Rattle.hirgrep_main.specs.Decisions.{shows_names};
+ghost use Rattle.hirgrep_main.specs.Readings.{lists_matches, prints_summary};
+
+use crate::asked::{Asked, Devices, Names};
+use crate::binary::prints_lines;
+use crate::reading::{Reading, lists_all};
+use grep_core::{OutputOptions, Print, needs_spans};
+
+fn prints_names_if_none(print: Print) -> bool
+    ensures { result ≡ prints_names_if_none print }
+{
+    match print {
+        Print::NameIfNone => true,
+        _ => false,
+    }
+}
+
+/// Whether this number is the greatest number of lines that may be selected.
+fn is_most(number: u64, most: Option<u64>) -> bool
+    ensures { result ≡ is_most number most }
+{
+    match most {
+        Some(most) => most == number,
+        None => false,
+    }
+}
+
+/// Whether lines are printed whether any is selected or not.
+fn prints_all(what: &OutputOptions<'_>) -> bool
+    ensures { result ≡ prints_all what.now }
+{
+    match what.context {
+        Some(context) => prints_lines(what.print) && context.first > 0,
+        None => false,
+    }
+}
+
+/// Whether reading a file that is written at the same time could go on forever. It could if lines are printed and the first isn't the last
+/// one.
+pub fn may_run_on(asked: &Asked) -> bool
+    ensures { result ≡ may_run_on asked.now.what }
+{
+    prints_lines(asked.what.print) && !is_most(1, asked.what.most) || prints_all(&asked.what)
+}
+
+/// Whether devices that are found in folders are read.
+pub fn reads_found(devices: Devices) -> bool
+    ensures { result ≡ reads_found devices }
+{
+    match devices {
+        Devices::ReadAll => true,
+        Devices::ReadNamed | Devices::SkipAll => false,
+    }
+}
+
+/// Whether devices that arguments name are read.
+pub fn reads_named(devices: Devices) -> bool
+    ensures { result ≡ reads_named devices }
+{
+    match devices {
+        Devices::ReadAll | Devices::ReadNamed => true,
+        Devices::SkipAll => false,
+    }
+}
+
+/// Whether names are printed before lines, depending on whether several files may be searched.
+pub fn is_named(asked: &Asked, may_be_several: bool) -> bool
+    ensures { result ≡ shows_names asked.now.names may_be_several }
+{
+    match asked.names {
+        Names::Always => true,
+        Names::Never => false,
+        Names::IfSeveral => may_be_several,
+    }
+}
+
+/// Whether no line can be selected, and nothing is printed whatever the inputs are.
+pub fn selects_none(asked: &Asked) -> bool
+    ensures { result ≡ selects_none asked.now.what }
+{
+    is_most(0, asked.what.most)
+        && !(prints_names_if_none(asked.what.print) || prints_all(&asked.what))
+}
+
+/// Whether the finder is asked where matches are, and not only whether there are any.
+pub fn lists_matches(asked: &Asked) -> bool
+    ensures { result ≡ lists_matches asked.now }
+{
+    lists_all(asked.reading) || needs_spans(&asked.what)
+}
+
+/// Whether the sum of what was searched is printed at the end.
+pub fn prints_summary(asked: &Asked) -> bool
+    ensures { result ≡ prints_summary asked.now }
+{
+    asked.reading == Reading::Events && prints_lines(asked.what.print)
+}

@@ -1,0 +1,203 @@
+//! Opens files, and searches what they have.
+ghost use Rattle.std.specs.Prelude.{◌≡◌, ℕ, Bool, true, false, Result, Ok, IfErr, IfOk, IfSome, if◌then◌else◌};
+ghost use Rattle.line_search.specs.Searchers.{SearchesFor};
+ghost use Rattle.hirgrep_main.specs.Readings.{lists_matches};
+ghost use Rattle.line_search.specs.declared.fault.Fault.{Fault as TheFault};
+ghost use Rattle.json_events.specs.declared.stats.Stats.{Stats as TheStats};
+ghost use Rattle.hirgrep_main.specs.Decisions.{counted, may_run_on};
+ghost use Rattle.hirgrep_main.specs.Selecting.{selection};
+ghost use Rattle.hirgrep_main.specs.Walking.{Tries};
+ghost use Rattle.hirgrep_main.specs.Outcomes.{Continues, after_search, with_failure, with_totals};
+ghost use Rattle.hirgrep_main.specs.Tasks.{count_of, patterns_by};
+ghost use Rattle.hirgrep_main.specs.Texts.{printed_name};
+
+use crate::columns::width_at;
+use crate::counting::Counting;
+use crate::decisions::may_run_on;
+use crate::input::input;
+use crate::input_report::report_one;
+use crate::listing::list_file;
+use crate::messages::Causes;
+use crate::outcome::Outcome;
+use crate::output::Output;
+use crate::task::{Task, shown_name};
+use crate::texts::separated_name;
+use crate::walking::is_output;
+use grep_core::Headed;
+use line_search::Finder;
+use std::alloc::AllocError;
+use std::io::{Read, Write};
+use std::rt::Runtime;
+use std::{fs, io};
+
+/// Searches the input of a reader under this name, and records the outcome.
+fn search_reader<R: Read + Drop, W: Write + Drop>(
+    rt: &HostRuntime,
+    finder: &mut Finder<'_>,
+    task: Task<'_>,
+    outcome: &mut Outcome,
+    name: &str,
+    reader: R,
+    writer: W,
+)
+    ensures same { finder.new ≡ finder.old }
+    ensures came { (reported : Result ℕ TheFault) × (bytes : ℕ) × (wrote : Bool) × (totals : TheStats)
+        × (outcome.new ≡ after_search task.entry.asked.now.what.print (with_totals outcome.old totals) bytes wrote reported)
+        × IfOk reported (λ n. (by : SearchesFor finder.old (lists_matches task.entry.asked.now)) →
+        IfSome (R.remaining reader) (λ text. n ≡ count_of task.entry (patterns_by by) (printed_name task.entry.hides_controls name.now) text)) }
+    ensures counted { outcome.new.files ≡ counted outcome.old.files 1 }
+    ensures continues { Continues outcome.old outcome.new }
+{
+    let mut reader = Counting::new(reader);
+    let mut writer = Headed::new(rt.alloc(), Output::new(writer));
+    let mut totals = outcome.totals;
+    let reported = report_one(
+        rt,
+        finder,
+        task,
+        *outcome,
+        name,
+        &mut reader,
+        &mut writer,
+        &mut totals,
+    );
+    outcome.totals = totals;
+    outcome.keep_search(
+        rt,
+        task.asked,
+        name,
+        reader.count(),
+        writer.writer.wrote(),
+        reported,
+        Causes {
+            read: reader.code(),
+            write: writer.writer.code(),
+        },
+    );
+}
+
+/// Whether the output would become part of the input. This is reported and recorded as a failure.
+fn is_refused_output(
+    rt: &HostRuntime,
+    task: Task<'_>,
+    outcome: &mut Outcome,
+    name: &str,
+    path: &str,
+) -> bool
+    ensures came { outcome.new ≡ (if result then with_failure outcome.old else outcome.old) }
+    ensures continues { Continues outcome.old outcome.new }
+{
+    let is_refused = may_run_on(task.asked) && is_output(rt, task.output, path);
+    if is_refused {
+        outcome.fail_with(rt, task.asked, name, "input file is also the output");
+    }
+    is_refused
+}
+
+/// Searches what was opened, or records that it can't be opened.
+fn search_opened<R: Read + Drop>(
+    rt: &HostRuntime,
+    finder: &mut Finder<'_>,
+    task: Task<'_>,
+    outcome: &mut Outcome,
+    name: &str,
+    opened: io::Result<R>,
+)
+    ensures read { IfOk opened (λ _. outcome.new.files ≡ counted outcome.old.files 1) }
+    ensures unread { IfErr opened (λ _. outcome.new ≡ with_failure outcome.old) }
+    ensures tried { Tries outcome.old outcome.new }
+    ensures continues { Continues outcome.old outcome.new }
+{
+    match opened {
+        Ok(reader) => search_reader(rt, finder, task, outcome, name, reader, rt.stdout()),
+        Err(e) => outcome.fail(rt, task.asked, name, e),
+    }
+}
+
+/// Searches what was opened, with numbers at least this wide, or records that memory ran out.
+fn search_aligned<R: Read + Drop>(
+    rt: &HostRuntime,
+    finder: &mut Finder<'_>,
+    task: Task<'_>,
+    outcome: &mut Outcome,
+    name: &str,
+    width: Result<usize, AllocError>,
+    opened: io::Result<R>,
+)
+    ensures unknown { IfErr width (λ _. outcome.new ≡ with_failure outcome.old) }
+    ensures read { IfOk width (λ _. IfOk opened (λ _. outcome.new.files ≡ counted outcome.old.files 1)) }
+    ensures tried { Tries outcome.old outcome.new }
+    ensures continues { Continues outcome.old outcome.new }
+{
+    match width {
+        Ok(width) => search_opened(rt, finder, Task { width, ..task }, outcome, name, opened),
+        Err(_) => outcome.fail_with(rt, task.asked, name, "out of memory"),
+    }
+}
+
+/// Searches standard input.
+pub fn search_input(
+    rt: &HostRuntime,
+    finder: &mut Finder<'_>,
+    task: Task<'_>,
+    outcome: &mut Outcome,
+)
+    ensures listed { task.entry.selection.now.lists ≡ true → outcome.new ≡ outcome.old }
+    ensures tried { task.entry.selection.now.lists ≡ false → Tries outcome.old outcome.new }
+    ensures continues { Continues outcome.old outcome.new }
+{
+    if task.selection.lists {
+        return;
+    }
+    let name = task.input_name;
+    let reader = input(rt, task.asked);
+    if is_refused_output(rt, task, outcome, name, "/dev/stdin") {
+        return;
+    }
+    let width = width_at(rt, &task.asked.what, "/dev/stdin");
+    search_aligned(rt, finder, task, outcome, name, width, Ok(reader));
+}
+
+/// Searches a file under this name, or prints the name.
+fn search_under(
+    rt: &HostRuntime,
+    finder: &mut Finder<'_>,
+    task: Task<'_>,
+    outcome: &mut Outcome,
+    name: &str,
+    path: &str,
+)
+    ensures tried { Tries outcome.old outcome.new }
+    ensures continues { Continues outcome.old outcome.new }
+{
+    if task.selection.lists {
+        list_file(rt, task, outcome, name);
+        return;
+    }
+    if is_refused_output(rt, task, outcome, name, path) {
+        return;
+    }
+    let width = width_at(rt, &task.asked.what, path);
+    search_aligned(rt, finder, task, outcome, name, width, fs::open(rt, path));
+}
+
+/// Searches a file, or prints its name.
+pub fn search_file(
+    rt: &HostRuntime,
+    finder: &mut Finder<'_>,
+    task: Task<'_>,
+    outcome: &mut Outcome,
+    path: &str,
+)
+    ensures tried { Tries outcome.old outcome.new }
+    ensures continues { Continues outcome.old outcome.new }
+{
+    let name = shown_name(task, path);
+    let Some(separator) = task.asked.path_separator else {
+        return search_under(rt, finder, task, outcome, name, path);
+    };
+    match separated_name(rt.alloc(), separator, name) {
+        Ok(name) => search_under(rt, finder, task, outcome, name.as_str(), path),
+        Err(_) => outcome.fail_with(rt, task.asked, path, "out of memory"),
+    }
+}
