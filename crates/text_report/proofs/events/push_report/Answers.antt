@@ -30,4 +30,4 @@ returns-in-Ok-push_end-clause-reported c by =
     some_ended c.args.what.now c.args.name.now c.args.time (length c.args.text.now) c.push_events.new.out.items c.in-Ok.counts
     (printed_lines c.args.what.now (found_by by) c.args.name.now c.args.text.now) (c.in-Ok.ensures.reported by) c.stats_of-stats.result c.push_end.new.out.items some
     (c.stats_of-stats.ensures ∙ ap (λ bs. full_stats c.args.what.now c.args.time (length c.args.text.now) (printed bs c.in-Ok.counts))
-    c.as_slice.ensures.value) (c.in-Ok-push_end.ensures tt)
+    c.as_slice.ensures.value) c.in-Ok-push_end.ensures
