@@ -92,7 +92,7 @@ gap_found flags n e = some_at (nat_lt (gap flags) (length flags)) (gap flags) n 
 pub gap_whole : (flags : List Bool) → position (λ flag. flag) flags ≡ None → gap flags ≡ length flags
 gap_whole flags e =
     let past : length flags ≤ gap flags =
-        ltb-false (gap flags) (length flags) (none_at (nat_lt (gap flags) (length flags)) (gap flags) e) in
+    ltb-false (gap flags) (length flags) (none_at (nat_lt (gap flags) (length flags)) (gap flags) e) in
     omega (arith, past, gap_within flags)
 
 -- whether one of the next n lines is selected

@@ -14,4 +14,3 @@ pub returns-in-Err-clause-fault : goal.returns-in-Err-clause-fault
 returns-in-Err-clause-fault g c by =
     none_written (g.W.Write.contents c.args.writer.now)
     (json_report c.args.what.now (found_by by) c.args.name.now c.args.time c.args.text.now)
-
