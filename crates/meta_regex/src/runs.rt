@@ -1,0 +1,212 @@
+//! Patterns that are one or more rounds of a class of bytes or characters, as `[0-9]+` and `\w+`: a search for their matches without
+//! automata.
+//!
+//! The leftmost-first match is the first run of enough bytes of the class. Of a class of characters the run has ASCII alone. If a byte that
+//! may begin another character of the class is at the start or the end of a run, the search stops before the run, and automata go on there.
+ghost use Rattle.std.specs.Prelude.{◌≡◌, ◌<◌, ◌≤◌, ℕ, false, get_or, IfSome, length, true};
+ghost use Rattle.search_core.specs.ByteSets.{has};
+ghost use Rattle.hir_core.specs.Tree.{Tree};
+ghost use Rattle.meta_regex.specs.FirstBytes.{may_begin};
+ghost use Rattle.meta_regex.specs.Runs.{AreRoundsOf, IsNextRun, IsRunOf, IsRunOfTrees, has_byte};
+
+use crate::first_bytes::{has_byte, has_char, may_be_empty, may_begin};
+use crate::searching::see_bytes;
+use hir_core::{Hir, HirKind};
+use search_core::ByteSet;
+
+/// How many bytes are examined for the start of a run. Automata examine many bytes at once, so they go on if none of these is one.
+const MOST_SCANNED: usize = 32;
+
+/// At least so many rounds of a class.
+#[derive(Clone, Copy, Drop)]
+pub(crate) struct Run {
+    /// The bytes with which a round may begin.
+    pub(crate) first: ByteSet,
+    /// The bytes that are a round each.
+    pub(crate) members: ByteSet,
+    /// How many rounds there are at least.
+    pub(crate) least: usize,
+}
+
+/// What a search for a run finds.
+#[derive(Clone, Copy)]
+pub(crate) enum NextRun {
+    /// The next match, by its start and its end.
+    Found(usize, usize),
+    /// There is no match.
+    Missing,
+    /// No match starts before this offset.
+    From(usize),
+}
+
+/// Whether the tree is a class that has this byte, or the character that this byte alone spells.
+fn is_round(x: &Hir, byte: u8) -> bool
+    ensures { result ≡ true → has_byte x.now byte ≡ true }
+{
+    match x.kind() {
+        HirKind::Bytes(ranges) => has_byte(ranges, byte),
+        HirKind::Chars(ranges) => byte < 0x80 && has_char(ranges, byte),
+        _ => false,
+    }
+}
+
+/// The bytes that are a span of the class each.
+fn members_of(x: &Hir) -> ByteSet
+    ensures { (b : ℕ) → b < 256 → has result b ≡ true → has_byte x.now b ≡ true }
+{
+    let mut set = ByteSet::empty();
+    for byte in 0..=255u8 {
+        if is_round(x, byte) {
+            set.add(byte);
+        }
+    }
+    set
+}
+
+/// The bytes with which the spans of the tree begin.
+fn first_bytes_of(x: &Hir) -> ByteSet
+    ensures { (b : ℕ) → b < 256 → may_begin x.now b ≡ true → has result b ≡ true }
+{
+    let mut set = ByteSet::empty();
+    for byte in 0..=255u8 {
+        if may_begin(x, byte) {
+            set.add(byte);
+        }
+    }
+    set
+}
+
+/// At least so many rounds of this body, if it is a class with a byte that is a round.
+fn run_of_body(least: usize, body: &Hir) -> Option<Run>
+    ensures least { IfSome result (λ r. r.least ≡ least) }
+    ensures rounds { IfSome result (λ r. AreRoundsOf r body.now) }
+{
+    if least == 0 || may_be_empty(body) {
+        return None;
+    }
+    let members = members_of(body);
+    if members.is_empty() {
+        return None;
+    }
+    Some(Run {
+        first: first_bytes_of(body),
+        members,
+        least,
+    })
+}
+
+/// The run that the tree is, if it is one.
+fn run_of(x: &Hir) -> Option<Run>
+    ensures { IfSome result (λ r. IsRunOf r x.now) }
+{
+    let HirKind::Repetition {
+        min,
+        max,
+        greedy,
+        sub,
+    } = x.kind() else {
+        return None;
+    };
+    if max.is_some() || !*greedy {
+        return None;
+    }
+    let Some(run) = run_of_body(*min as usize, sub) else {
+        return None;
+    };
+    Some(run)
+}
+
+/// The run that the tree is, or that its group is.
+fn run_of_group(x: &Hir) -> Option<Run>
+    ensures { IfSome result (λ r. IsRunOf r x.now) }
+{
+    match x.kind() {
+        HirKind::Capture { sub, .. } => run_of(sub),
+        _ => run_of(x),
+    }
+}
+
+/// The run that the only tree is, if there is one tree.
+pub(crate) fn run_of_only(trees: &[Hir]) -> Option<Run>
+    ensures { IfSome result (λ r. IsRunOfTrees r trees.now) }
+{
+    let Some((tree, others)) = trees.split_first() else {
+        return None;
+    };
+    if !others.is_empty() {
+        return None;
+    }
+    let Some(run) = run_of_group(tree) else {
+        return None;
+    };
+    Some(run)
+}
+
+/// The first offset from `from` on with a byte of the set. If none of the next [`MOST_SCANNED`] bytes is of it, it returns the offset after
+/// these.
+#[inline(always)]
+fn find_member(set: &ByteSet, haystack: &[u8], from: usize) -> usize
+    requires { from ≤ length haystack.now }
+    ensures low { from ≤ result }
+    ensures high { result ≤ length haystack.now }
+    ensures passed { (k : ℕ) → from ≤ k → k < result → has set.now (get_or haystack.now k 0) ≡ false }
+{
+    let end = haystack.len().min(from.saturating_add(MOST_SCANNED));
+    let mut at = from;
+    while at < end && !set.contains(haystack[at]) {
+        at += 1;
+    }
+    at
+}
+
+/// The first offset from `from` on whose byte isn't of the set, or the haystack's length.
+#[inline(always)]
+fn skip_members(set: &ByteSet, haystack: &[u8], from: usize) -> usize
+    requires { from ≤ length haystack.now }
+    ensures low { from ≤ result }
+    ensures high { result ≤ length haystack.now }
+    ensures passed { (k : ℕ) → from ≤ k → k < result → has set.now (get_or haystack.now k 0) ≡ true }
+{
+    let mut at = from;
+    while at < haystack.len() && set.contains(haystack[at]) {
+        at += 1;
+    }
+    at
+}
+
+/// Whether a byte of the set is at this offset.
+#[inline(always)]
+fn stands_at(set: &ByteSet, haystack: &[u8], at: usize) -> bool
+    ensures { result ≡ false → at < length haystack.now → has set.now (get_or haystack.now at 0) ≡ false }
+{
+    at < haystack.len() && set.contains(haystack[at])
+}
+
+impl Run {
+    /// The next match from this offset on.
+    pub(crate) fn next(&self, haystack: &[u8], from: usize) -> NextRun
+        requires { from ≤ length haystack.now }
+        ensures { (x : Tree) → IsRunOf self.now x → IsNextRun x haystack.now from result }
+    {
+        see_bytes(haystack);
+        let mut at = from;
+        while at < haystack.len() {
+            let start = find_member(&self.first, haystack, at);
+            if start - at >= MOST_SCANNED {
+                return NextRun::From(start);
+            }
+            let end = skip_members(&self.members, haystack, start);
+            if stands_at(&self.first, haystack, end) {
+                return NextRun::From(start);
+            }
+            if self.least <= end - start {
+                return NextRun::Found(start, end);
+            }
+            if end == haystack.len() {
+                return NextRun::Missing;
+            }
+            at = end + 1;
+        }
+        NextRun::Missing
+    }
+}
