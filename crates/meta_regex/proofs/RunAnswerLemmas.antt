@@ -150,7 +150,7 @@ pub begins_here : (config : Config) (texts : List (List ℕ)) (h : List ℕ) (at
 begins_here config texts h at within = (within, λ res read. refl)
 
 -- a run of the only tree is one of the only pattern
-pub run_of_texts : (config : Config) (texts : List (List ℕ)) (loops : Bool) (trees : List Tree) → AreTreesOf config texts loops trees →
-    (o : Option Run) → IfSome o (λ r. IsRunOfTrees r trees) → IfSome o (IsRunOfTexts config texts loops)
-run_of_texts config texts loops trees searched None none = tt
-run_of_texts config texts loops trees searched (Some r) run = record { trees = trees; searched = searched; run = run }
+pub run_of_texts : (config : Config) (texts : List (List ℕ)) (loops : Bool) (xs : List Tree) → AreTreesOf config texts loops xs →
+    (o : Option Run) → IfSome o (λ r. IsRunOfTrees r xs) → IfSome o (IsRunOfTexts config texts loops)
+run_of_texts config texts loops xs of None none = tt
+run_of_texts config texts loops xs of (Some r) run = record { trees = xs; searched = of; run = run }

@@ -110,12 +110,16 @@ module _ (r : Run) (x : Tree) (it : IsRunOf r x) (h : List ℕ) (bytes : All (λ
 
 -- ---- what a search for a run has found so far
 module _ (r : Run) (h : List ℕ) (bytes : All (λ b. b < 256) h) (from at start : ℕ) (within : start ≤ length h) (reached : at ≤ start)
-    (skipped : (k : ℕ) → at ≤ k → k < start → has r.first (get_or h k 0) ≡ false) (x : Tree) (it : IsRunOf r x)
+    (skipped : (k : ℕ) → at ≤ k → k < start → has r.starts (get_or h k 0) ≡ false) (x : Tree) (it : IsRunOf r x)
     (low : from ≤ at) (so : StartsFrom x h from at) where
+  none_between : (k : ℕ) → at ≤ k → k < start → has r.first (get_or h k 0) ≡ false
+  none_between k after before =
+      sym (it.rounds.starts (get_or h k 0) (bytes k 0 (omega (arith, before, within)))) ∙ skipped k after before
+
   none_to_start : StartsFrom x h from start
   none_to_start = record {
     starts = λ looks s j above inside m. elim (cases_lt s start) [
-      | inl less ↦ absurd (none_outside r x it h bytes looks s (λ inner. skipped s (so.starts looks s j above inside m) less) j m)
+      | inl less ↦ absurd (none_outside r x it h bytes looks s (λ inner. none_between s (so.starts looks s j above inside m) less) j m)
       | inr after ↦ after
     ];
   }
@@ -194,3 +198,11 @@ pub members_by : (set : List Bool) (x : Tree) → ((b : ℕ) → b < 256 → has
 members_by set x all = record {
   one = λ looks h i b bytes at member. byte_is_span x looks h i b at (all b (byte_below h i b bytes at) member);
 }
+
+-- what isn't so at an offset
+pub not_in : (set : List Bool) (b : ℕ) → (has set b ≡ true → ⊥) → has set b ≡ false
+not_in set b none = by_test (has set b) none
+  where
+    by_test : (t : Bool) → (t ≡ true → ⊥) → t ≡ false
+    by_test true none = absurd (none refl)
+    by_test false none = refl

@@ -21,9 +21,11 @@ pub record AreMembers (set : List Bool) (x : Tree) : Type 0 where
   pub one : (looks : Looks) (h : List ℕ) (i b : ℕ) → All (λ b. b < 256) h → slice_get h i ≡ Some b → has set b ≡ true →
       preferred_ends looks h x i ≡ (i + 1) ∷ []
 
--- Each span of the body begins with a byte of the first set. Where a byte of the second set is, that byte is its one span.
+-- Each span of the body begins with a byte of the first set, which is searched for. Where a byte of the members is, that byte is its one
+-- span.
 pub record AreRoundsOf (r : Run) (body : Tree) : Type 0 where
   pub first : AreFirstBytes r.first body
+  pub starts : (b : ℕ) → b < 256 → has r.starts b ≡ has r.first b
   pub members : AreMembers r.members body
   pub some : 0 < r.least
 

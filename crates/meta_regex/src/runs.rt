@@ -14,14 +14,13 @@ use crate::searching::see_bytes;
 use hir_core::{Hir, HirKind};
 use search_core::ByteSet;
 
-/// How many bytes are examined for the start of a run. Automata examine many bytes at once, so they go on if none of these is one.
-const MOST_SCANNED: usize = 32;
-
 /// At least so many rounds of a class.
-#[derive(Clone, Copy, Drop)]
+#[derive(Drop)]
 pub(crate) struct Run {
     /// The bytes with which a round may begin.
     pub(crate) first: ByteSet,
+    /// A search for the next of these bytes.
+    pub(crate) starts: regex_literal::ByteSet,
     /// The bytes that are a round each.
     pub(crate) members: ByteSet,
     /// How many rounds there are at least.
@@ -76,6 +75,17 @@ fn first_bytes_of(x: &Hir) -> ByteSet
     set
 }
 
+/// A test for each byte of a set.
+fn flags_of(set: &ByteSet) -> [bool; 256]
+    ensures { (b : ℕ) → b < 256 → has result b ≡ has set.now b }
+{
+    let mut flags = [false; 256];
+    for byte in 0..=255u8 {
+        flags[usize::from(byte)] = set.contains(byte);
+    }
+    flags
+}
+
 /// At least so many rounds of this body, if it is a class with a byte that is a round.
 fn run_of_body(least: usize, body: &Hir) -> Option<Run>
     ensures least { IfSome result (λ r. r.least ≡ least) }
@@ -88,8 +98,10 @@ fn run_of_body(least: usize, body: &Hir) -> Option<Run>
     if members.is_empty() {
         return None;
     }
+    let first = first_bytes_of(body);
     Some(Run {
-        first: first_bytes_of(body),
+        first,
+        starts: regex_literal::ByteSet::new(&flags_of(&first)),
         members,
         least,
     })
@@ -142,23 +154,6 @@ pub(crate) fn run_of_only(trees: &[Hir]) -> Option<Run>
     Some(run)
 }
 
-/// The first offset from `from` on with a byte of the set. If none of the next [`MOST_SCANNED`] bytes is of it, it returns the offset after
-/// these.
-#[inline(always)]
-fn find_member(set: &ByteSet, haystack: &[u8], from: usize) -> usize
-    requires { from ≤ length haystack.now }
-    ensures low { from ≤ result }
-    ensures high { result ≤ length haystack.now }
-    ensures passed { (k : ℕ) → from ≤ k → k < result → has set.now (get_or haystack.now k 0) ≡ false }
-{
-    let end = haystack.len().min(from.saturating_add(MOST_SCANNED));
-    let mut at = from;
-    while at < end && !set.contains(haystack[at]) {
-        at += 1;
-    }
-    at
-}
-
 /// The first offset from `from` on whose byte isn't of the set, or the haystack's length.
 #[inline(always)]
 fn skip_members(set: &ByteSet, haystack: &[u8], from: usize) -> usize
@@ -183,6 +178,20 @@ fn stands_at(set: &ByteSet, haystack: &[u8], at: usize) -> bool
 }
 
 impl Run {
+    /// The first offset from `from` on with a byte with which a round may begin, or the haystack's length.
+    #[inline(always)]
+    fn next_start(&self, haystack: &[u8], from: usize) -> usize
+        requires { from ≤ length haystack.now }
+        ensures low { from ≤ result }
+        ensures high { result ≤ length haystack.now }
+        ensures passed { (k : ℕ) → from ≤ k → k < result → has self.now.starts (get_or haystack.now k 0) ≡ false }
+    {
+        match self.starts.find_near(haystack, from, haystack.len()) {
+            Some(at) => at,
+            None => haystack.len(),
+        }
+    }
+
     /// The next match from this offset on.
     pub(crate) fn next(&self, haystack: &[u8], from: usize) -> NextRun
         requires { from ≤ length haystack.now }
@@ -191,10 +200,7 @@ impl Run {
         see_bytes(haystack);
         let mut at = from;
         while at < haystack.len() {
-            let start = find_member(&self.first, haystack, at);
-            if start - at >= MOST_SCANNED {
-                return NextRun::From(start);
-            }
+            let start = self.next_start(haystack, at);
             let end = skip_members(&self.members, haystack, start);
             if stands_at(&self.first, haystack, end) {
                 return NextRun::From(start);

@@ -1,4 +1,5 @@
-use Rattle.std.proofs.Common.{arith}
+use Rattle.std.proofs.Common.{Bool, List, ap, arith}
+use Rattle.search_core.specs.ByteSets.{has}
 use Rattle.meta_regex.proofs.FirstByteLemmas.{first_bytes_of}
 use Rattle.meta_regex.proofs.RunLemmas.{members_by}
 use Rattle.std.proofs.Common.{sym, ◌∙◌}
@@ -6,7 +7,8 @@ use Rattle.meta_regex.proofs.runs.run_of_body.Goals as goal
 
 pub returns-clause-rounds : goal.returns-clause-rounds
 returns-clause-rounds c = record {
-  first = first_bytes_of c.first_bytes_of.result c.args.body.now (sym c.may_be_empty.ensures ∙ c.if-may_be_empty.false) c.first_bytes_of.ensures;
+  first = first_bytes_of c.first_bytes_of-first.result c.args.body.now (sym c.may_be_empty.ensures ∙ c.if-may_be_empty.false) c.first_bytes_of-first.ensures;
+  starts = λ b low. ap (λ (s : List Bool). has s b) c.new.ensures ∙ c.flags_of.ensures b low;
   members = members_by c.members_of-members.result c.args.body.now c.members_of-members.ensures;
   some = omega (arith, c.if-least-eq0.false);
 }
