@@ -116,7 +116,8 @@ fn run_of(x: &Hir) -> Option<Run>
         max,
         greedy,
         sub,
-    } = x.kind() else {
+    } = x.kind()
+    else {
         return None;
     };
     if max.is_some() || !*greedy {
