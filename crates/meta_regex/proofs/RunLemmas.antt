@@ -1,5 +1,5 @@
 -- A run of bytes of a class is the preferred span of rounds of that class, and no span starts where a run is too short.
-use Rattle.std.proofs.Common.{◌≡◌, ℕ, zero, suc, ◌+◌, ◌-◌, ◌<◌, ◌≤◌, ◌⊎◌, inl, inr, Bool, true, false, ◌&&◌, nat_le, nat_lt, List, [], ◌∷◌, ◌++◌, length, All}
+use Rattle.std.proofs.Common.{◌≡◌, ℕ, zero, suc, ◌+◌, ◌-◌, ◌<◌, ◌≤◌, ◌⊎◌, inl, inr, Bool, true, false, ◌&&◌, nat_le, nat_lt, not, List, [], ◌∷◌, ◌++◌, length, All}
 use Rattle.std.proofs.Common.{slice_get, Some, None, Option, refl, sym, ap, subst, ◌∙◌, arith, true≢false, get_or, if◌then◌else◌}
 use Rattle.std.specs.List.{flat_map}
 use Rattle.std.specs.Option.{option_or}
@@ -206,3 +206,16 @@ not_in set b none = by_test (has set b) none
     by_test : (t : Bool) → (t ≡ true → ⊥) → t ≡ false
     by_test true none = absurd (none refl)
     by_test false none = refl
+
+-- ---- the end of a run, which is found in two steps
+pub members_between : (r : Run) (body : Tree) → AreRoundsOf r body → (h : List ℕ) → All (λ b. b < 256) h → (from at to : ℕ) → to ≤ length h →
+    ((k : ℕ) → from ≤ k → k < at → has r.members (get_or h k 0) ≡ true) → ((k : ℕ) → at ≤ k → k < to → has r.ends (get_or h k 0) ≡ false) →
+    (k : ℕ) → from ≤ k → k < to → has r.members (get_or h k 0) ≡ true
+members_between r body it h bytes from at to within before after k low high = elim (cases_lt k at) [
+  | inl less ↦ before k low less
+  | inr above ↦ by_test (has r.members (get_or h k 0)) (sym (it.others (get_or h k 0) (bytes k 0 (omega (arith, high, within)))) ∙ after k above high)
+]
+  where
+    by_test : (t : Bool) → not t ≡ false → t ≡ true
+    by_test true none = refl
+    by_test false none = cc

@@ -1,5 +1,5 @@
 -- Searches for patterns that are one or more rounds of a class of bytes or characters, as `[0-9]+` and `\w+`.
-use Rattle.std.specs.Prelude.{◌≡◌, ℕ, ◌+◌, ◌<◌, ◌≤◌, ◌&&◌, Bool, true, false, nat_lt, List, [], ◌∷◌, All, length, slice_get, Some, None}
+use Rattle.std.specs.Prelude.{◌≡◌, ℕ, ◌+◌, ◌<◌, ◌≤◌, ◌&&◌, Bool, true, false, nat_lt, not, List, [], ◌∷◌, All, length, slice_get, Some, None}
 use Rattle.search_core.specs.ByteSets.{has}
 use Rattle.hir_core.specs.Tree.{Tree, byte_class, char_class}
 use Rattle.hir_core.specs.Means.{Looks, is_member}
@@ -22,11 +22,12 @@ pub record AreMembers (set : List Bool) (x : Tree) : Type 0 where
       preferred_ends looks h x i ≡ (i + 1) ∷ []
 
 -- Each span of the body begins with a byte of the first set, which is searched for. Where a byte of the members is, that byte is its one
--- span.
+-- span. The others are searched for as ends of runs.
 pub record AreRoundsOf (r : Run) (body : Tree) : Type 0 where
   pub first : AreFirstBytes r.first body
   pub starts : (b : ℕ) → b < 256 → has r.starts b ≡ has r.first b
   pub members : AreMembers r.members body
+  pub others : (b : ℕ) → b < 256 → has r.ends b ≡ not (has r.members b)
   pub some : 0 < r.least
 
 -- the tree is at least so many rounds of such a body, of which more are preferred

@@ -3,7 +3,7 @@
 //!
 //! The leftmost-first match is the first run of enough bytes of the class. Of a class of characters the run has ASCII alone. If a byte that
 //! may begin another character of the class is at the start or the end of a run, the search stops before the run, and automata go on there.
-ghost use Rattle.std.specs.Prelude.{◌≡◌, ◌<◌, ◌≤◌, ℕ, false, get_or, IfSome, length, true};
+ghost use Rattle.std.specs.Prelude.{◌≡◌, ◌<◌, ◌≤◌, ℕ, false, get_or, IfSome, length, not, true};
 ghost use Rattle.search_core.specs.ByteSets.{has};
 ghost use Rattle.hir_core.specs.Tree.{Tree};
 ghost use Rattle.meta_regex.specs.FirstBytes.{may_begin};
@@ -14,6 +14,9 @@ use crate::searching::see_bytes;
 use hir_core::{Hir, HirKind};
 use search_core::ByteSet;
 
+/// How many bytes of a run are examined one by one.
+const NEAR: usize = 24;
+
 /// At least so many rounds of a class.
 #[derive(Drop)]
 pub(crate) struct Run {
@@ -23,6 +26,8 @@ pub(crate) struct Run {
     pub(crate) starts: regex_literal::ByteSet,
     /// The bytes that are a round each.
     pub(crate) members: ByteSet,
+    /// A search for the next byte that is none of these.
+    pub(crate) ends: regex_literal::ByteSet,
     /// How many rounds there are at least.
     pub(crate) least: usize,
 }
@@ -86,6 +91,17 @@ fn flags_of(set: &ByteSet) -> [bool; 256]
     flags
 }
 
+/// A test for each byte that isn't in a set.
+fn flags_of_others(set: &ByteSet) -> [bool; 256]
+    ensures { (b : ℕ) → b < 256 → has result b ≡ not (has set.now b) }
+{
+    let mut flags = [false; 256];
+    for byte in 0..=255u8 {
+        flags[usize::from(byte)] = !set.contains(byte);
+    }
+    flags
+}
+
 /// At least so many rounds of this body, if it is a class with a byte that is a round.
 fn run_of_body(least: usize, body: &Hir) -> Option<Run>
     ensures least { IfSome result (λ r. r.least ≡ least) }
@@ -103,6 +119,7 @@ fn run_of_body(least: usize, body: &Hir) -> Option<Run>
         first,
         starts: regex_literal::ByteSet::new(&flags_of(&first)),
         members,
+        ends: regex_literal::ByteSet::new(&flags_of_others(&members)),
         least,
     })
 }
@@ -155,16 +172,17 @@ pub(crate) fn run_of_only(trees: &[Hir]) -> Option<Run>
     Some(run)
 }
 
-/// The first offset from `from` on whose byte isn't of the set, or the haystack's length.
+/// The first offset from `from` on, before `end`, whose byte isn't of the set, or otherwise `end`.
 #[inline(always)]
-fn skip_members(set: &ByteSet, haystack: &[u8], from: usize) -> usize
-    requires { from ≤ length haystack.now }
+fn skip_members(set: &ByteSet, haystack: &[u8], from: usize, end: usize) -> usize
+    requires fits { from ≤ end }
+    requires within { end ≤ length haystack.now }
     ensures low { from ≤ result }
-    ensures high { result ≤ length haystack.now }
+    ensures high { result ≤ end }
     ensures passed { (k : ℕ) → from ≤ k → k < result → has set.now (get_or haystack.now k 0) ≡ true }
 {
     let mut at = from;
-    while at < haystack.len() && set.contains(haystack[at]) {
+    while at < end && set.contains(haystack[at]) {
         at += 1;
     }
     at
@@ -193,6 +211,38 @@ impl Run {
         }
     }
 
+    /// The first offset from `from` on whose byte isn't a round, or the haystack's length. Many bytes are examined at once.
+    #[inline(never)]
+    fn far_end(&self, haystack: &[u8], from: usize) -> usize
+        requires { from ≤ length haystack.now }
+        ensures low { from ≤ result }
+        ensures high { result ≤ length haystack.now }
+        ensures passed { (k : ℕ) → from ≤ k → k < result → has self.now.ends (get_or haystack.now k 0) ≡ false }
+    {
+        match self.ends.find(haystack, from, haystack.len()) {
+            Some(at) => at,
+            None => haystack.len(),
+        }
+    }
+
+    /// The end of the run that begins at this offset. Most runs are short, so the next bytes are examined one by one.
+    #[inline(always)]
+    fn run_end(&self, haystack: &[u8], from: usize) -> usize
+        requires { from ≤ length haystack.now }
+        ensures low { from ≤ result }
+        ensures high { result ≤ length haystack.now }
+        ensures passed { (body : Tree) → AreRoundsOf self.now body → (k : ℕ) → from ≤ k → k < result →
+            has self.now.members (get_or haystack.now k 0) ≡ true }
+    {
+        see_bytes(haystack);
+        let near = haystack.len().min(from.saturating_add(NEAR));
+        let end = skip_members(&self.members, haystack, from, near);
+        if end < near {
+            return end;
+        }
+        self.far_end(haystack, end)
+    }
+
     /// The next match from this offset on.
     pub(crate) fn next(&self, haystack: &[u8], from: usize) -> NextRun
         requires { from ≤ length haystack.now }
@@ -202,7 +252,7 @@ impl Run {
         let mut at = from;
         while at < haystack.len() {
             let start = self.next_start(haystack, at);
-            let end = skip_members(&self.members, haystack, start);
+            let end = self.run_end(haystack, start);
             if stands_at(&self.first, haystack, end) {
                 return NextRun::From(start);
             }

@@ -12,30 +12,30 @@ pub returns-then-self-end : goal.returns-then-self-end
 returns-then-self-end c = λ x it.
     finds_run c.args.self.now c.args.haystack.now c.see_bytes.ensures c.args.from c.loop-at.at c.next_start-start.result
     c.next_start-start.ensures.high c.next_start-start.ensures.low c.next_start-start.ensures.passed x it c.loop-at.invariant.0
-    (c.loop-at.invariant.2 x it) c.skip_members-end.result c.skip_members-end.ensures.high c.skip_members-end.ensures.passed
-    (c.stands_at.ensures c.if-stands_at.false) (omega (arith, c.if-self-end.true, c.skip_members-end.ensures.low))
+    (c.loop-at.invariant.2 x it) c.run_end-end.result c.run_end-end.ensures.high (c.run_end-end.ensures.passed it.body it.rounds)
+    (c.stands_at.ensures c.if-stands_at.false) (omega (arith, c.if-self-end.true, c.run_end-end.ensures.low))
 
 pub loop-at-preserved : goal.loop-at-preserved
 loop-at-preserved c = (
-  omega (arith, c.loop-at.invariant.0, c.next_start-start.ensures.low, c.skip_members-end.ensures.low),
-  omega (arith, c.skip_members-end.ensures.high, c.if-end-haystack.false),
+  omega (arith, c.loop-at.invariant.0, c.next_start-start.ensures.low, c.run_end-end.ensures.low),
+  omega (arith, c.run_end-end.ensures.high, c.if-end-haystack.false),
   λ x it.
       skips_run c.args.self.now c.args.haystack.now c.see_bytes.ensures c.args.from c.loop-at.at c.next_start-start.result
       c.next_start-start.ensures.high c.next_start-start.ensures.low c.next_start-start.ensures.passed x it c.loop-at.invariant.0
-      (c.loop-at.invariant.2 x it) c.skip_members-end.result c.skip_members-end.ensures.high c.skip_members-end.ensures.passed
-      (c.stands_at.ensures c.if-stands_at.false) c.skip_members-end.ensures.low
-      (omega (arith, c.if-self-end.false, c.skip_members-end.ensures.low)) (c.skip_members-end.result + 1) (omega arith),
+      (c.loop-at.invariant.2 x it) c.run_end-end.result c.run_end-end.ensures.high (c.run_end-end.ensures.passed it.body it.rounds)
+      (c.stands_at.ensures c.if-stands_at.false) c.run_end-end.ensures.low
+      (omega (arith, c.if-self-end.false, c.run_end-end.ensures.low)) (c.run_end-end.result + 1) (omega arith),
 )
 
 pub returns-then-end-haystack : goal.returns-then-end-haystack
 returns-then-end-haystack c = λ x it.
-    none_left c.args.self.now x it c.args.haystack.now c.see_bytes.ensures c.args.from c.skip_members-end.result
+    none_left c.args.self.now x it c.args.haystack.now c.see_bytes.ensures c.args.from c.run_end-end.result
     (omega (arith, c.if-end-haystack.true))
     (skips_run c.args.self.now c.args.haystack.now c.see_bytes.ensures c.args.from c.loop-at.at c.next_start-start.result
     c.next_start-start.ensures.high c.next_start-start.ensures.low c.next_start-start.ensures.passed x it c.loop-at.invariant.0
-    (c.loop-at.invariant.2 x it) c.skip_members-end.result c.skip_members-end.ensures.high c.skip_members-end.ensures.passed
-    (c.stands_at.ensures c.if-stands_at.false) c.skip_members-end.ensures.low
-    (omega (arith, c.if-self-end.false, c.skip_members-end.ensures.low)) c.skip_members-end.result (omega arith))
+    (c.loop-at.invariant.2 x it) c.run_end-end.result c.run_end-end.ensures.high (c.run_end-end.ensures.passed it.body it.rounds)
+    (c.stands_at.ensures c.if-stands_at.false) c.run_end-end.ensures.low
+    (omega (arith, c.if-self-end.false, c.run_end-end.ensures.low)) c.run_end-end.result (omega arith))
 
 pub returns : goal.returns
 returns c = λ x it.
