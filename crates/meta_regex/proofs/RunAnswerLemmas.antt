@@ -1,6 +1,6 @@
 -- What a search for a run finds is what the toolchain's matcher finds.
-use Rattle.std.proofs.Common.{◌≡◌, ℕ, zero, suc, ◌+◌, ◌-◌, ◌<◌, ◌≤◌, Bool, true, false, ◌&&◌, ◌||◌, not, nat_le, List, [], ◌∷◌, ◌++◌, length, map, All}
-use Rattle.std.proofs.Common.{Option, Some, None, option_map, refl, sym, ap, subst, ◌∙◌, arith, inl, inr, le-leb, if◌then◌else◌}
+use Rattle.std.proofs.Common.{◌≡◌, ℕ, suc, ◌+◌, ◌-◌, ◌<◌, ◌≤◌, Bool, true, false, nat_le, List, [], ◌∷◌, ◌++◌, length, map, All}
+use Rattle.std.proofs.Common.{Option, Some, None, option_map, refl, sym, ap, subst, ◌∙◌, arith, inl, le-leb, if◌then◌else◌}
 use Rattle.std.specs.List.{filter}
 use Rattle.std.specs.Prelude.{IfSome}
 use Rattle.std.proofs.lemmas.Bool.{and_from}
@@ -8,8 +8,8 @@ use Rattle.regex_hir.specs.Re.{Re}
 use Rattle.regex_hir.specs.Meaning.{alt_all}
 use Rattle.regex_syntax.specs.declared.Config.{Config}
 use Rattle.search_core.specs.Utf8.{IsValidText, is_boundary}
-use Rattle.hir_core.specs.Tree.{Tree, alternation}
-use Rattle.hir_core.specs.Means.{Looks, Means}
+use Rattle.hir_core.specs.Tree.{Tree}
+use Rattle.hir_core.specs.Means.{Means}
 use Rattle.hir_core.specs.PreferredEnds.{Has, preferred_ends}
 use Rattle.hir_core.proofs.ForCallers.{preferred_ends_sound, span_end_bounded, span_start_bounded}
 use Rattle.literal_search.specs.Searches.{IsNextStart}

@@ -1,19 +1,18 @@
 -- A run of bytes of a class is the preferred span of rounds of that class, and no span starts where a run is too short.
-use Rattle.std.proofs.Common.{◌≡◌, ℕ, zero, suc, ◌+◌, ◌-◌, ◌<◌, ◌≤◌, ◌⊎◌, inl, inr, Bool, true, false, ◌&&◌, nat_le, nat_lt, not, List, [], ◌∷◌, ◌++◌, length, All}
-use Rattle.std.proofs.Common.{slice_get, Some, None, Option, refl, sym, ap, subst, ◌∙◌, arith, true≢false, get_or, if◌then◌else◌}
+use Rattle.std.proofs.Common.{◌≡◌, ℕ, zero, suc, ◌+◌, ◌-◌, ◌<◌, ◌≤◌, inl, inr, Bool, true, false, nat_le, nat_lt, not, List, [], ◌∷◌, ◌++◌, length, All}
+use Rattle.std.proofs.Common.{slice_get, Some, Option, refl, sym, ap, subst, ◌∙◌, arith, true≢false, get_or, if◌then◌else◌}
 use Rattle.std.specs.List.{flat_map}
 use Rattle.std.specs.Option.{option_or}
-use Rattle.std.proofs.lemmas.Bool.{and_from, and_parts, cases_lt, cond-true, le-leb, lt-ltb, leb-true, ltb-true}
-use Rattle.std.proofs.lemmas.Option.{none-some, slice_get_within, slice_get-get_or, get_or_from_slice_get}
+use Rattle.std.proofs.lemmas.Bool.{and_from, and_parts, cases_lt, cond-true, le-leb, lt-ltb, ltb-true}
+use Rattle.std.proofs.lemmas.Option.{slice_get_within, slice_get-get_or, get_or_from_slice_get}
 use Rattle.search_core.specs.ByteSets.{has}
 use Rattle.search_core.specs.Characters.{character_at, four_bytes, spelling_len, three_bytes, two_bytes}
-use Rattle.hir_core.specs.Tree.{Tree, byte_class, char_class, empty, literal, look, repetition, capture, nothing, cat, never, alt, alternation}
+use Rattle.hir_core.specs.Tree.{Tree, byte_class, char_class, empty, literal, look, repetition, capture, nothing, cat, never, alt}
 use Rattle.hir_core.specs.Means.{Looks, Means, is_member}
 use Rattle.hir_core.specs.PreferredEnds.{Ends, Has, at_least, class_end, character_end, preferred_ends, up_to}
 use Rattle.hir_core.proofs.ForCallers.{nil_from_none, preferred_ends_complete, preferred_ends_sound}
 use Rattle.literal_search.specs.Searches.{IsNextStart, StartsFrom, StartsNowhere}
-use Rattle.meta_regex.specs.FirstBytes.{AreFirstBytes}
-use Rattle.meta_regex.specs.Runs.{AreMembers, AreRoundsOf, IsNextRun, IsRunOf, PrefersEnd, has_byte}
+use Rattle.meta_regex.specs.Runs.{AreMembers, AreRoundsOf, IsRunOf, PrefersEnd, has_byte}
 use Rattle.meta_regex.specs.declared.runs.Run.{Run}
 use Rattle.meta_regex.proofs.FirstByteLemmas.{byte_below}
 

@@ -1,4 +1,4 @@
-use Rattle.std.proofs.Common.{◌+◌, ◌∙◌, arith, length, sym}
+use Rattle.std.proofs.Common.{◌+◌, arith}
 use Rattle.meta_regex.proofs.RunLemmas.{finds_run, none_left, skips_run, stops_before}
 use Rattle.meta_regex.proofs.runs.Run.next.Goals as goal
 
