@@ -37,7 +37,7 @@ or_none : (a : Option Found) (f : Found) → option_or a None ≡ Some f → a �
 or_none None f is = is
 or_none (Some g) f is = is
 
-or_first : (a b : Option Found) (f : Found) → a ≡ Some f → option_or a b ≡ Some f
+pub or_first : (a b : Option Found) (f : Found) → a ≡ Some f → option_or a b ≡ Some f
 or_first None b f is = absurd (none-some f is)
 or_first (Some g) b f is = is
 
@@ -47,7 +47,7 @@ leftmost_here choices s n m f one is =
     or_first (first_choice s (choices s)) (leftmost choices m (s + 1)) f
     (or_none (first_choice s (choices s)) f (sym (ap (λ (k : ℕ). leftmost choices k s) one) ∙ is))
 
-if_true : (b : Bool) (o p : Option Found) → b ≡ true → (if b then o else p) ≡ o
+pub if_true : (b : Bool) (o p : Option Found) → b ≡ true → (if b then o else p) ≡ o
 if_true true o p is = refl
 if_true false o p is = cc
 

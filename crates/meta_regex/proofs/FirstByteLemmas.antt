@@ -50,7 +50,7 @@ first_of_taken zero xs b rest e = absurd (none-some b (ap (λ (l : List ℕ). sl
 first_of_taken (suc n) [] b rest e = absurd (none-some b (ap (λ (l : List ℕ). slice_get l 0) e))
 first_of_taken (suc n) (x ∷ xs) b rest e = ap (λ (l : List ℕ). slice_get l 0) e
 
-byte_below : (h : List ℕ) (i b : ℕ) → All (λ (b : ℕ). b < 256) h → slice_get h i ≡ Some b → b < 256
+pub byte_below : (h : List ℕ) (i b : ℕ) → All (λ (b : ℕ). b < 256) h → slice_get h i ≡ Some b → b < 256
 byte_below h i b bytes at =
     subst (λ (n : ℕ). n < 256) (get_or_from_slice_get h i b 0 at) (bytes i 0 (slice_get_within h i b at))
 

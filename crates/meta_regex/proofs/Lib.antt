@@ -9,5 +9,7 @@ mod LoopLemmas
 pub mod NextLemmas
 mod OrderLemmas
 mod RefusalLemmas
+mod RunLemmas
+mod RunAnswerLemmas
 mod WordlessLemmas
 mod StartLemmas

@@ -107,6 +107,15 @@ only_tree : (looks : Looks) (h : List ℕ) (x : Tree) (i j : ℕ) → Means look
 only_tree looks h x i j (inl m) = m
 only_tree looks h x i j (inr m) = absurd m
 
+-- the next start of one tree of a list without others
+pub only_next : (x : Tree) (h : List ℕ) (at : ℕ) (o : Option ℕ) → IsNextStart x h at o → IsNextStart (alternation (x ∷ [])) h at o
+only_next x h at None next = record { none = λ looks i e low within m. next.none looks i e low within (only_tree looks h x i e m) }
+only_next x h at (Some k) next = (
+  next.0,
+  next.1,
+  record { starts = λ looks i e low within m. next.2.starts looks i e low within (only_tree looks h x i e m) },
+)
+
 pub only_in_line : (literals : List (List ℕ)) (x : Tree) → IsInLine literals x → IsInLine literals (alternation (x ∷ []))
 only_in_line literals x it = record {
   contained = record { contained = λ looks h i j m. it.contained.contained looks h i j (only_tree looks h x i j m) };

@@ -2,6 +2,7 @@ pub mod Options
 pub mod Regexes
 pub mod Fallbacks
 pub mod FirstBytes
+pub mod Runs
 pub mod Caches
 pub mod Wordless
 pub mod Lists

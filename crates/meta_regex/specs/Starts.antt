@@ -1,8 +1,9 @@
 -- Where the matches of patterns may start, by the literals or bytes that they begin with, or the literals that they contain.
-use Rattle.std.specs.Prelude.{◌≡◌, ◌<◌, ℕ, ◌+◌, List, length, Option, Some, None, false, ⊤}
+use Rattle.std.specs.Prelude.{◌≡◌, ◌<◌, ℕ, ◌+◌, Bool, List, All, length, Option, Some, None, false, true, ⊤}
 use Rattle.regex_hir.specs.Re.{Re}
 use Rattle.regex_hir.specs.Meaning.{alt_all}
 use Rattle.regex_syntax.specs.declared.Config.{Config}
+use Rattle.hir_core.specs.Facts.{LoopsRead, is_utf8_tree}
 use Rattle.hir_core.specs.Tree.{Tree, alternation}
 use Rattle.line_trees.specs.LineTrees.{reads_feed}
 use Rattle.literal_search.specs.Searches.{IsBegunBy, IsContainedIn}
@@ -20,6 +21,10 @@ use Rattle.meta_regex.specs.declared.anchored.Step.TheVariants.{Done, Next}
 use Rattle.meta_regex.specs.declared.literal_starts.LiteralStarts.{LiteralStarts}
 use Rattle.meta_regex.specs.declared.literal_starts.LiteralStarts.TheVariants.{Unknown, Begins, InLine, FirstByte}
 use Rattle.meta_regex.specs.FirstBytes.{AreFirstBytes}
+use Rattle.meta_regex.specs.declared.runs.NextRun.{NextRun}
+use Rattle.meta_regex.specs.declared.runs.NextRun.TheVariants.{Found as FoundRun, Missing as NoRun, From as FromRun}
+use Rattle.meta_regex.specs.declared.runs.Run.{Run}
+use Rattle.meta_regex.specs.Runs.{IsRunOfTrees}
 use Rattle.meta_regex.specs.Regexes.{HasFoundStart, HasFoundSpan, row_of}
 use Rattle.meta_regex.specs.Wordless.{MayBeginAt}
 
@@ -88,3 +93,22 @@ IsStep config texts h at (Next s) = (at < s) × MayBeginAt config texts h at (So
 abbrev pub HasStepSpan : Config → List (List ℕ) → List ℕ → ℕ → Step → Type 0
 HasStepSpan config texts h at (Done o) = HasSoughtSpan config texts h at o
 HasStepSpan config texts h at (Next s) = ⊤
+
+-- ---- runs of a class
+-- trees of these patterns: with UTF-8 alone if that is required, and with bodies of loops that consume bytes if `loops` is true
+pub record AreTreesOf (config : Config) (texts : List (List ℕ)) (loops : Bool) (trees : List Tree) : Type 0 where
+  pub mean : AllMean config texts trees
+  pub utf8 : config.utf8 ≡ true → All (λ x. is_utf8_tree x ≡ true) trees
+  pub loops_read : loops ≡ true → All LoopsRead trees
+
+-- there is one pattern, and its tree is such a run
+pub record IsRunOfTexts (config : Config) (texts : List (List ℕ)) (loops : Bool) (r : Run) : Type 0 where
+  pub trees : List Tree
+  pub searched : AreTreesOf config texts loops trees
+  pub run : IsRunOfTrees r trees
+
+-- what was found is what the search found: the match of the only pattern, that there is none, or where a search may begin instead
+abbrev pub sought_of : NextRun → Sought
+sought_of (FoundRun start end) = FoundOne (record { pattern = 0; start = start; end = end })
+sought_of NoRun = Missing
+sought_of (FromRun s) = From s

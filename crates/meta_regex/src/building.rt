@@ -2,9 +2,9 @@
 ghost use Rattle.std.specs.Prelude.{◌≡◌, All, Some, false, true, IfErr, IfNone, IfOk, IfSome, map};
 ghost use Rattle.hir_core.specs.Facts.{LoopsRead};
 ghost use Rattle.hirscan.specs.Loops.{first_empty_loop};
-ghost use Rattle.pattern_search.specs.Texts.{AllMean};
 ghost use Rattle.meta_regex.specs.Options.{config_of};
 ghost use Rattle.meta_regex.specs.Regexes.{AreReportedOf, IsKindError};
+ghost use Rattle.meta_regex.specs.Starts.{AreTreesOf};
 
 use crate::errors::NewError;
 use crate::options::Options;
@@ -47,7 +47,7 @@ pub(crate) fn build_pair(
     ensures made { IfOk result (λ b. (it : AreReportedOf (config_of options.now) (map (λ t. t.now) texts.now) kind b.loops b.pair)
         ×
         (options.now.empty_loops ≡ false → b.loops ≡ true)) }
-    ensures trees { IfOk result (λ b. AllMean (config_of options.now) (map (λ t. t.now) texts.now) b.trees.items) }
+    ensures trees { IfOk result (λ b. AreTreesOf (config_of options.now) (map (λ t. t.now) texts.now) b.loops b.trees.items) }
     ensures refused { IfErr result (IsKindError kind options.now (map (λ t. t.now) texts.now)) }
 {
     let trees = match parse_all(alloc, texts, &options.syntax) {

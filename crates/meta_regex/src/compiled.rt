@@ -1,13 +1,14 @@
 //! A regex of several patterns.
-ghost use Rattle.std.specs.Prelude.{◌≡◌, IfErr, IfOk, length, map, string_bytes};
+ghost use Rattle.std.specs.Prelude.{◌≡◌, IfErr, IfOk, IfSome, length, map, string_bytes};
 ghost use Rattle.search_types.specs.declared.match_kind.MatchKind.TheVariants.{LeftmostFirst};
 ghost use Rattle.meta_regex.specs.Regexes.{AreReportedOf, IsMadeOf, IsNewError, config_by};
-ghost use Rattle.meta_regex.specs.Starts.{AreStartsOf};
+ghost use Rattle.meta_regex.specs.Starts.{AreStartsOf, IsRunOfTexts};
 
 use crate::building::build_pair;
 use crate::errors::NewError;
 use crate::literal_starts::LiteralStarts;
 use crate::options::Options;
+use crate::runs::{Run, run_of_only};
 use crate::short_loops::all_have_short_loops;
 use crate::texts::owned;
 use search_types::MatchKind;
@@ -34,21 +35,24 @@ pub struct Regex {
     starts: LiteralStarts,
     /// Whether a try to match at one offset is expected to read few bytes.
     short: bool,
+    /// The run of a class that its only pattern is, if it is one.
+    run: Option<Run>,
 }
 
 impl Model for Regex {
-    ghost use Rattle.std.specs.Prelude.{map, string_bytes};
+    ghost use Rattle.std.specs.Prelude.{IfSome, map, string_bytes};
     ghost use Rattle.search_types.specs.declared.match_kind.MatchKind.TheVariants.{LeftmostFirst};
     ghost use Rattle.meta_regex.specs.Options.{config_of};
     ghost use Rattle.meta_regex.specs.Regexes.{RegexValue, AreReportedOf};
-    ghost use Rattle.meta_regex.specs.Starts.{AreStartsOf};
+    ghost use Rattle.meta_regex.specs.Starts.{AreStartsOf, IsRunOfTexts};
 
     ghost Value = { RegexValue };
 
     ghost view = { λ r. record { options = r.options; texts = map string_bytes r.texts.items; loops = r.loops; pair = r.pair } };
 
     ghost invariant = { λ r. AreReportedOf (config_of r.options) (map string_bytes r.texts.items) LeftmostFirst r.loops r.pair
-        × AreStartsOf (config_of r.options) (map string_bytes r.texts.items) r.starts };
+        × AreStartsOf (config_of r.options) (map string_bytes r.texts.items) r.starts
+        × IfSome r.run (IsRunOfTexts (config_of r.options) (map string_bytes r.texts.items) r.loops) };
 }
 
 impl Regex {
@@ -67,6 +71,7 @@ impl Regex {
         };
         let short = all_have_short_loops(&built.trees);
         let starts = LiteralStarts::of(alloc, &built.trees, short);
+        let run = run_of_only(&built.trees);
         Ok(Regex {
             pair: built.pair,
             texts: copies,
@@ -74,6 +79,7 @@ impl Regex {
             loops: built.loops,
             starts,
             short,
+            run,
         })
     }
 
@@ -118,6 +124,14 @@ impl Regex {
         ensures { AreStartsOf (config_by self.now) self.now.texts result.now }
     {
         &self.starts
+    }
+
+    /// The run of a class that its only pattern is, if it is one.
+    #[inline(always)]
+    pub(crate) fn run(&self) -> Option<&Run>
+        ensures { IfSome result (λ r. IsRunOfTexts (config_by self.now) self.now.texts self.now.loops r.now) }
+    {
+        self.run.as_ref()
     }
 
     /// Whether anything is known of where matches start.

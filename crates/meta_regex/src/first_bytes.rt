@@ -25,7 +25,7 @@ fn begins_with(bytes: &[u8], byte: u8) -> bool
     }
 }
 
-fn has_byte(ranges: &[(u8, u8)], byte: u8) -> bool
+pub(crate) fn has_byte(ranges: &[(u8, u8)], byte: u8) -> bool
     ensures { result ≡ is_member ranges.now byte }
 {
     ranges
@@ -33,7 +33,7 @@ fn has_byte(ranges: &[(u8, u8)], byte: u8) -> bool
         .any(|range| range.0 <= byte && byte <= range.1)
 }
 
-fn has_char(ranges: &[(char, char)], byte: u8) -> bool
+pub(crate) fn has_char(ranges: &[(char, char)], byte: u8) -> bool
     ensures { result ≡ is_member ranges.now byte }
 {
     ranges.iter().any(|range| range.0 as u32 <= byte as u32 && byte as u32 <= range.1 as u32)
@@ -58,7 +58,7 @@ fn may_lead(ranges: &[(char, char)], byte: u8) -> bool
 
 /// Whether the tree may have an empty span.
 #[cycle(may_be_empty)]
-fn may_be_empty(x: &Hir) -> bool
+pub(crate) fn may_be_empty(x: &Hir) -> bool
     ensures { result ≡ may_be_empty x.now }
 {
     match x.kind() {
@@ -98,7 +98,7 @@ fn any_may_be_empty(xs: &[Hir]) -> bool
 
 /// Whether a span of the tree that isn't empty may begin with this byte.
 #[cycle(may_begin)]
-fn may_begin(x: &Hir, byte: u8) -> bool
+pub(crate) fn may_begin(x: &Hir, byte: u8) -> bool
     ensures { result ≡ may_begin x.now byte }
 {
     match x.kind() {

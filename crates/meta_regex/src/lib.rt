@@ -18,6 +18,7 @@ mod literal_starts;
 mod matching_patterns;
 mod options;
 mod overlapping;
+mod runs;
 mod searching;
 mod short_loops;
 mod texts;

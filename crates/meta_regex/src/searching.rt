@@ -5,7 +5,7 @@ ghost use Rattle.search_core.specs.Utf8.{IsValidText};
 ghost use Rattle.pattern_search.specs.Searches.{whole_search};
 ghost use Rattle.regex_pair.specs.Pairs.{AreCachesOf};
 ghost use Rattle.meta_regex.specs.Caches.{IsCacheOf};
-ghost use Rattle.meta_regex.specs.Starts.{HasSoughtSpan, IsSought};
+ghost use Rattle.meta_regex.specs.Starts.{HasSoughtSpan, IsSought, sought_of};
 ghost use Rattle.meta_regex.specs.Wordless.{MayBeginAt};
 ghost use Rattle.meta_regex.specs.Regexes.{HasFoundStart, HasFoundSpan, IsSearchError, IsReported, config_by, row_of};
 
@@ -15,6 +15,7 @@ use crate::compiled::Regex;
 use crate::errors::SearchError;
 use crate::fallback::find_best;
 use crate::found_match::FoundMatch;
+use crate::runs::NextRun;
 use hirscan::find;
 use pattern_search::regex_laws::regexes_answer_what_is_written;
 use search_types::{Input, Match, MatchError, MatchErrorKind};
@@ -54,6 +55,22 @@ fn check_text(haystack: &[u8], utf8: bool) -> Result<(), SearchError>
     match str::from_utf8(haystack) {
         Ok(_) => Ok(()),
         Err(e) => Err(SearchError::NotUtf8(e.valid_up_to())),
+    }
+}
+
+/// What a search for a run found.
+#[inline(always)]
+fn sought_of(next: NextRun) -> Sought
+    ensures { result ≡ sought_of next }
+{
+    match next {
+        NextRun::Found(start, end) => Sought::Found(FoundMatch {
+            pattern: 0,
+            start,
+            end,
+        }),
+        NextRun::Missing => Sought::Missing,
+        NextRun::From(start) => Sought::From(start),
     }
 }
 
@@ -309,9 +326,9 @@ impl Regex {
         }
     }
 
-    /// A search of a haystack that is UTF-8 if the options require it, which [`check`](Regex::check) tests. It is
-    /// [`find_at`](Regex::find_at) without that test, for several searches of one haystack.
-    pub fn search(
+    /// A search by automata, which begins where literals or first bytes of matches say.
+    #[inline(never)]
+    fn search_by_automata(
         &self,
         alloc: Global,
         cache: &mut Cache,
@@ -348,6 +365,50 @@ impl Regex {
             Err(e) => return Err(e),
         };
         cache.effort.pass(searched_len(&found, haystack, start));
+        Ok(found)
+    }
+
+    /// The next match, if the only pattern is a run of a class. Otherwise it returns where a search has to begin.
+    #[inline(always)]
+    fn sought_run(&self, haystack: &[u8], from: usize) -> Sought
+        requires within { from ≤ length haystack.now }
+        requires valid { (config_by self.now).utf8 ≡ true → IsValidText haystack.now }
+        ensures sought { IsSought (config_by self.now) self.now.texts haystack.now from result }
+        ensures preferred { self.now.loops ≡ true → HasSoughtSpan (config_by self.now) self.now.texts haystack.now from result }
+    {
+        see_bytes(haystack);
+        let Some(run) = self.run() else {
+            return Sought::From(from);
+        };
+        sought_of(run.next(haystack, from))
+    }
+
+    /// A search of a haystack that is UTF-8 if the options require it, which [`check`](Regex::check) tests. It is
+    /// [`find_at`](Regex::find_at) without that test, for several searches of one haystack.
+    pub fn search(
+        &self,
+        alloc: Global,
+        cache: &mut Cache,
+        haystack: &[u8],
+        from: usize,
+    ) -> Result<Option<FoundMatch>, SearchError>
+        requires own { IsCacheOf self.now cache.old }
+        requires within { from ≤ length haystack.now }
+        requires valid { (config_by self.now).utf8 ≡ true → IsValidText haystack.now }
+        ensures own { IsCacheOf self.now cache.new }
+        ensures found { IfOk result (HasFoundStart (config_by self.now) self.now.texts haystack.now from) }
+        ensures preferred { self.now.loops ≡ true → IfOk result (HasFoundSpan (config_by self.now) self.now.texts haystack.now from) }
+        ensures refused { IfErr result (IsSearchError (config_by self.now) haystack.now) }
+    {
+        let start = match self.sought_run(haystack, from) {
+            Sought::Found(found) => return Ok(Some(found)),
+            Sought::Missing => return Ok(None),
+            Sought::From(start) => start,
+        };
+        let found = match self.search_by_automata(alloc, cache, haystack, start) {
+            Ok(found) => found,
+            Err(e) => return Err(e),
+        };
         Ok(found)
     }
 

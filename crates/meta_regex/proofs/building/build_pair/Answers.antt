@@ -36,3 +36,11 @@ returns-clause-made c =
       ),
       λ off. reported.1 (subst (λ (xs : List Tree). All LoopsRead xs) c.deref.ensures.value (c.in_default.ensures.none off)),
     )
+
+pub returns-clause-trees : goal.returns-clause-trees
+returns-clause-trees c = record {
+  mean = c.in-Ok.ensures.means;
+  utf8 = c.in-Ok.ensures.utf8;
+  loops_read = (subst (λ (xs : List Tree). (c.all_loops_read-loops.result ≡ true) ↔ All LoopsRead xs)
+      c.deref-2.ensures.value c.all_loops_read-loops.ensures).0;
+}

@@ -1,10 +1,13 @@
-use Rattle.std.proofs.Common.{List, ℕ, refl, subst, sym}
+use Rattle.std.proofs.Common.{List, ℕ, map, refl, string_bytes, subst, sym}
+use Rattle.std.specs.Prelude.{IfSome}
 use Rattle.hir_core.specs.Tree.{Tree, alternation}
 use Rattle.search_types.specs.declared.match_kind.MatchKind.TheVariants.{LeftmostFirst}
 use Rattle.pattern_search.specs.Texts.{AllMean}
 use Rattle.meta_regex.specs.Options.{config_of}
 use Rattle.meta_regex.specs.Regexes.{AreReportedOf}
-use Rattle.meta_regex.specs.Starts.{DescribesStarts}
+use Rattle.meta_regex.specs.Runs.{IsRunOfTrees}
+use Rattle.meta_regex.specs.Starts.{AreTreesOf, DescribesStarts}
+use Rattle.meta_regex.proofs.RunAnswerLemmas.{run_of_texts}
 use Rattle.meta_regex.proofs.compiled.Regex.new.Goals as goal
 
 pub invariant_of-result : goal.invariant_of-result
@@ -14,9 +17,14 @@ invariant_of-result c = (
   record {
     trees = c.in-Ok.built.trees.items;
     mean = subst (λ (ts : List (List ℕ)). AllMean (config_of c.args.options.now) ts c.in-Ok.built.trees.items) (sym c.in-Ok-owned.ensures)
-        c.in-Ok.ensures.trees;
+        c.in-Ok.ensures.trees.mean;
     described = subst (λ (xs : List Tree). DescribesStarts c.of-starts.result (alternation xs)) c.deref-2.ensures.value c.of-starts.ensures;
   },
+  run_of_texts (config_of c.args.options.now) (map string_bytes c.in-Ok-owned.copies.items) c.in-Ok.built.loops c.in-Ok.built.trees.items
+      (subst (λ (ts : List (List ℕ)). AreTreesOf (config_of c.args.options.now) ts c.in-Ok.built.loops c.in-Ok.built.trees.items)
+      (sym c.in-Ok-owned.ensures) c.in-Ok.ensures.trees)
+      c.run_of_only-run.result
+      (subst (λ (xs : List Tree). IfSome c.run_of_only-run.result (λ r. IsRunOfTrees r xs)) c.deref-3.ensures.value c.run_of_only-run.ensures),
 )
 
 pub returns-clause-made : goal.returns-clause-made
