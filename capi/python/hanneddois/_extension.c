@@ -1010,12 +1010,10 @@ typedef struct {
 static Match *free_matches;
 static size_t free_count;
 
-/* A match that was freed and is kept has no reference to it, and keeps its reference to its type. */
-static inline Match *allocate_match(void)
+/* Takes a match that was freed and is kept: there has to be one. It has no reference to it, and keeps its reference to its type. */
+static inline Match *reuse_match(void)
 {
     Match *match = free_matches;
-    if (!match)
-        return PyObject_GC_New(Match, match_type);
     free_matches = (Match *)match->haystack;
     free_count--;
     return (Match *)new_reference((PyObject *)match);
@@ -1027,11 +1025,9 @@ static inline int is_plain(PyObject *haystack)
     return PyBytes_CheckExact(haystack) || PyUnicode_CheckExact(haystack);
 }
 
-static inline Match *make_match(Matcher *regex, PyObject *haystack, const hanneddois_match *row, size_t start, size_t end, const Place *place)
+static inline void fill_match(Match *match, Matcher *regex, PyObject *haystack, const hanneddois_match *row, size_t start, size_t end,
+                              const Place *place)
 {
-    Match *match = allocate_match();
-    if (!match)
-        return NULL;
     match->pattern = (Py_ssize_t)row->pattern;
     match->start = (Py_ssize_t)start;
     match->end = (Py_ssize_t)end;
@@ -1041,6 +1037,14 @@ static inline Match *make_match(Matcher *regex, PyObject *haystack, const hanned
     match->regex = new_reference((PyObject *)regex);
     match->finder = NULL;
     match->offsets = NULL;
+}
+
+static inline Match *make_match(Matcher *regex, PyObject *haystack, const hanneddois_match *row, size_t start, size_t end, const Place *place)
+{
+    Match *match = free_matches ? reuse_match() : PyObject_GC_New(Match, match_type);
+    if (!match)
+        return NULL;
+    fill_match(match, regex, haystack, row, start, end, place);
     if (!is_plain(haystack))
         PyObject_GC_Track(match);
     return match;
@@ -1073,7 +1077,15 @@ static inline int match_clear(PyObject *self)
     return 0;
 }
 
-static void match_dealloc(PyObject *self)
+static inline void keep_free_match(Match *match)
+{
+    match->haystack = (PyObject *)free_matches;
+    free_matches = match;
+    free_count++;
+}
+
+/* Frees a match, or keeps it. */
+static __attribute__((noinline)) void free_match(PyObject *self)
 {
     PyTypeObject *type = Py_TYPE(self);
     PyObject *haystack = ((Match *)self)->haystack;
@@ -1081,13 +1093,31 @@ static void match_dealloc(PyObject *self)
         PyObject_GC_UnTrack(self);
     match_clear(self);
     if (free_count < MOST_FREE) {
-        ((Match *)self)->haystack = (PyObject *)free_matches;
-        free_matches = (Match *)self;
-        free_count++;
+        keep_free_match((Match *)self);
     } else {
         PyObject_GC_Del(self);
         Py_DECREF(type);
     }
+}
+
+/* Whether something else refers to an object too. */
+static inline int is_shared(PyObject *object)
+{
+    return Py_REFCNT(object) > 1;
+}
+
+/* Most matches are kept, and none of what they refer to is freed with them. */
+static void match_dealloc(PyObject *self)
+{
+    Match *match = (Match *)self;
+    if (free_count == MOST_FREE || match->finder || !match->haystack || !is_plain(match->haystack) || !is_shared(match->haystack) ||
+        !is_shared(match->regex) || (match->offsets && match->offsets != match->few)) {
+        free_match(self);
+        return;
+    }
+    Py_DECREF(match->haystack);
+    Py_DECREF(match->regex);
+    keep_free_match(match);
 }
 
 /* The part of a haystack between two offsets in bytes. */
@@ -1165,15 +1195,21 @@ static inline Py_ssize_t *room_for_offsets(Match *match, Py_ssize_t count)
     return match->offsets;
 }
 
-/* Keeps the offsets of all groups but the whole match. Offsets in bytes are those of the slots: HANNEDDOIS_NO_OFFSET is -1 there. */
+/* Offsets in bytes are those of the slots: HANNEDDOIS_NO_OFFSET is -1 there. */
+static inline void copy_offsets(Py_ssize_t *offsets, const size_t *slots, Py_ssize_t count)
+{
+    for (Py_ssize_t i = 0; i < count - 1; i++)
+        memcpy(offsets + 2 * i, slots + 2 + 2 * i, 2 * sizeof *slots);
+}
+
+/* Keeps the offsets of all groups but the whole match. */
 static inline int keep_offsets(Match *match, const Haystack *haystack, const size_t *slots, Py_ssize_t count)
 {
     Py_ssize_t *offsets = room_for_offsets(match, count);
     if (!offsets)
         return -1;
     if (!haystack->has_characters)
-        for (Py_ssize_t i = 0; i < count - 1; i++)
-            memcpy(offsets + 2 * i, slots + 2 + 2 * i, 2 * sizeof *slots);
+        copy_offsets(offsets, slots, count);
     else if (slots[1] - slots[0] == (size_t)(match->end - match->start))
         move_offsets(match, slots, count, offsets);
     else
@@ -1804,6 +1840,8 @@ typedef struct {
     Place place;
     /* How many matches of the regex were asked for their groups before these were found. */
     size_t asked_before;
+    /* Whether offsets count bytes, and matches aren't tracked. */
+    int is_quick;
 } Iterator;
 
 /* Before more matches are found: they are found with their groups, if the groups of most of the last ones were asked for. */
@@ -1834,35 +1872,49 @@ static __attribute__((noinline)) int refill(Iterator *self)
     return 0;
 }
 
-/* The match of a row, with its groups if they were searched for. */
-static inline PyObject *match_of_row(Iterator *self, const hanneddois_match *row, size_t start, size_t end)
+/* Adds its groups to the match of the last row, if they were searched for. */
+static inline PyObject *add_groups(const Scan *scan, Match *match)
 {
-    Scan *scan = &self->scan;
-    Match *match = make_match(scan->matcher, scan->haystack.object, row, start, end, &self->place);
-    if (!match || !scan->width)
-        return (PyObject *)match;
-    Py_ssize_t count = group_count(scan->matcher, match->pattern);
+    Py_ssize_t count = match && scan->width ? group_count(scan->matcher, match->pattern) : 0;
     if (count > 1 && keep_offsets(match, &scan->haystack, slots_of(scan), count) < 0)
         Py_CLEAR(match);
     return (PyObject *)match;
 }
 
-/* The match of a row whose offsets count characters. It is a call of its own, so that others save no registers for it. */
-static __attribute__((noinline)) PyObject *match_by_characters(Iterator *self, const hanneddois_match *row)
+/* The next match of any haystack. */
+static __attribute__((noinline)) PyObject *next_match(Iterator *self)
 {
-    const Haystack *haystack = &self->scan.haystack;
-    size_t start = move_to(&self->position, haystack, row->start);
-    return match_of_row(self, row, start, move_to(&self->position, haystack, row->end));
-}
-
-static PyObject *iterator_next(PyObject *object)
-{
-    Iterator *self = (Iterator *)object;
     Scan *scan = &self->scan;
     if (scan->next == scan->count && !refill(self))
         return NULL;
     const hanneddois_match *row = &scan->rows[scan->next++];
-    return scan->haystack.has_characters ? match_by_characters(self, row) : match_of_row(self, row, row->start, row->end);
+    size_t start = move_to(&self->position, &scan->haystack, row->start), end = move_to(&self->position, &scan->haystack, row->end);
+    return add_groups(scan, make_match(scan->matcher, scan->haystack.object, row, start, end, &self->place));
+}
+
+static __attribute__((noinline)) PyObject *add_many_groups(const Scan *scan, Match *match)
+{
+    return add_groups(scan, match);
+}
+
+/* Most matches are made by copying alone. Other calls are at the end, so that no registers are saved for them. */
+static PyObject *iterator_next(PyObject *object)
+{
+    Iterator *self = (Iterator *)object;
+    Scan *scan = &self->scan;
+    if (scan->next == scan->count || !self->is_quick || !free_matches)
+        return next_match(self);
+    const hanneddois_match *row = &scan->rows[scan->next++];
+    Match *match = reuse_match();
+    fill_match(match, scan->matcher, scan->haystack.object, row, row->start, row->end, &self->place);
+    if (!scan->width)
+        return (PyObject *)match;
+    Py_ssize_t count = group_count(scan->matcher, match->pattern);
+    if (count - 1 > FEW_GROUPS)
+        return add_many_groups(scan, match);
+    if (count > 1)
+        copy_offsets(match->offsets = match->few, slots_of(scan), count);
+    return (PyObject *)match;
 }
 
 /* Parses the arguments of a search for all matches, and begins it. */
@@ -1897,6 +1949,7 @@ static PyObject *iterate(const char *name, PyObject *matcher, PyObject *const *a
     self->position = range.start;
     self->place = range.place;
     self->asked_before = ((Matcher *)matcher)->asked;
+    self->is_quick = !scan.haystack.has_characters && is_plain(scan.haystack.object);
     PyObject_GC_Track(self);
     return (PyObject *)self;
 }
