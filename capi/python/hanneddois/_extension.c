@@ -2137,6 +2137,8 @@ typedef struct {
 
 static int add_bytes(Output *output, const void *bytes, size_t length)
 {
+    if (length == 0)
+        return 0;
     if (length > output->room - output->length) {
         size_t room = 2 * output->room + length + 64;
         char *grown = room < length ? NULL : realloc(output->bytes, room);
