@@ -1010,12 +1010,10 @@ typedef struct {
 static Match *free_matches;
 static size_t free_count;
 
-/* A match that was freed and is kept has no reference to it, and keeps its reference to its type. */
-static inline Match *allocate_match(void)
+/* Takes a match that was freed and is kept: there has to be one. It has no reference to it, and keeps its reference to its type. */
+static inline Match *reuse_match(void)
 {
     Match *match = free_matches;
-    if (!match)
-        return PyObject_GC_New(Match, match_type);
     free_matches = (Match *)match->haystack;
     free_count--;
     return (Match *)new_reference((PyObject *)match);
@@ -1027,11 +1025,9 @@ static inline int is_plain(PyObject *haystack)
     return PyBytes_CheckExact(haystack) || PyUnicode_CheckExact(haystack);
 }
 
-static inline Match *make_match(Matcher *regex, PyObject *haystack, const hanneddois_match *row, size_t start, size_t end, const Place *place)
+static inline void fill_match(Match *match, Matcher *regex, PyObject *haystack, const hanneddois_match *row, size_t start, size_t end,
+                              const Place *place)
 {
-    Match *match = allocate_match();
-    if (!match)
-        return NULL;
     match->pattern = (Py_ssize_t)row->pattern;
     match->start = (Py_ssize_t)start;
     match->end = (Py_ssize_t)end;
@@ -1041,6 +1037,14 @@ static inline Match *make_match(Matcher *regex, PyObject *haystack, const hanned
     match->regex = new_reference((PyObject *)regex);
     match->finder = NULL;
     match->offsets = NULL;
+}
+
+static inline Match *make_match(Matcher *regex, PyObject *haystack, const hanneddois_match *row, size_t start, size_t end, const Place *place)
+{
+    Match *match = free_matches ? reuse_match() : PyObject_GC_New(Match, match_type);
+    if (!match)
+        return NULL;
+    fill_match(match, regex, haystack, row, start, end, place);
     if (!is_plain(haystack))
         PyObject_GC_Track(match);
     return match;
@@ -1073,7 +1077,15 @@ static inline int match_clear(PyObject *self)
     return 0;
 }
 
-static void match_dealloc(PyObject *self)
+static inline void keep_free_match(Match *match)
+{
+    match->haystack = (PyObject *)free_matches;
+    free_matches = match;
+    free_count++;
+}
+
+/* Frees a match, or keeps it. */
+static __attribute__((noinline)) void free_match(PyObject *self)
 {
     PyTypeObject *type = Py_TYPE(self);
     PyObject *haystack = ((Match *)self)->haystack;
@@ -1081,13 +1093,31 @@ static void match_dealloc(PyObject *self)
         PyObject_GC_UnTrack(self);
     match_clear(self);
     if (free_count < MOST_FREE) {
-        ((Match *)self)->haystack = (PyObject *)free_matches;
-        free_matches = (Match *)self;
-        free_count++;
+        keep_free_match((Match *)self);
     } else {
         PyObject_GC_Del(self);
         Py_DECREF(type);
     }
+}
+
+/* Whether something else refers to an object too. */
+static inline int is_shared(PyObject *object)
+{
+    return Py_REFCNT(object) > 1;
+}
+
+/* Most matches are kept, and none of what they refer to is freed with them. */
+static void match_dealloc(PyObject *self)
+{
+    Match *match = (Match *)self;
+    if (free_count == MOST_FREE || match->finder || !match->haystack || !is_plain(match->haystack) || !is_shared(match->haystack) ||
+        !is_shared(match->regex) || (match->offsets && match->offsets != match->few)) {
+        free_match(self);
+        return;
+    }
+    Py_DECREF(match->haystack);
+    Py_DECREF(match->regex);
+    keep_free_match(match);
 }
 
 /* The part of a haystack between two offsets in bytes. */
@@ -1099,10 +1129,10 @@ static inline PyObject *part_of_bytes(const Haystack *haystack, size_t start, si
 }
 
 /* The part of a str or of a buffer between two offsets, as it is now: a buffer may have been written to, and may be shorter. */
-static PyObject *part_of_other(PyObject *object, Py_ssize_t start, Py_ssize_t end)
+static __attribute__((noinline)) PyObject *part_of_other(PyObject *object, Py_ssize_t start, Py_ssize_t end)
 {
     Haystack haystack;
-    if (PyUnicode_CheckExact(object) || PyUnicode_Check(object))
+    if (PyUnicode_Check(object))
         return PyUnicode_Substring(object, start, end);
     if (open_haystack(&haystack, object) < 0)
         return NULL;
@@ -1123,7 +1153,9 @@ static inline const char *constant_bytes_of(PyObject *object)
 /* The part of a haystack between two offsets, with its `constant_bytes_of`. */
 static inline PyObject *part_of(PyObject *object, const char *bytes, Py_ssize_t start, Py_ssize_t end)
 {
-    return bytes ? PyBytes_FromStringAndSize(bytes + start, end - start) : part_of_other(object, start, end);
+    if (bytes)
+        return PyBytes_FromStringAndSize(bytes + start, end - start);
+    return PyUnicode_CheckExact(object) ? PyUnicode_Substring(object, start, end) : part_of_other(object, start, end);
 }
 
 /* Counts the characters before the offsets of all groups but the whole match. Groups are inside of their match. */
@@ -1152,22 +1184,36 @@ static void move_offsets(const Match *match, const size_t *slots, Py_ssize_t cou
         offsets[i] = slots[2 + i] == HANNEDDOIS_NO_OFFSET ? -1 : (Py_ssize_t)slots[2 + i] - more;
 }
 
-/* Keeps the offsets of all groups but the whole match. Offsets in bytes are those of the slots: HANNEDDOIS_NO_OFFSET is -1 there. */
+/* The place for the offsets of all groups but the whole match, or NULL with an error. */
+static inline Py_ssize_t *room_for_offsets(Match *match, Py_ssize_t count)
+{
+    if (count - 1 <= FEW_GROUPS)
+        return match->offsets = match->few;
+    match->offsets = malloc((size_t)(count - 1) * 2 * sizeof *match->offsets);
+    if (!match->offsets)
+        PyErr_NoMemory();
+    return match->offsets;
+}
+
+/* Offsets in bytes are those of the slots: HANNEDDOIS_NO_OFFSET is -1 there. */
+static inline void copy_offsets(Py_ssize_t *offsets, const size_t *slots, Py_ssize_t count)
+{
+    for (Py_ssize_t i = 0; i < count - 1; i++)
+        memcpy(offsets + 2 * i, slots + 2 + 2 * i, 2 * sizeof *slots);
+}
+
+/* Keeps the offsets of all groups but the whole match. */
 static inline int keep_offsets(Match *match, const Haystack *haystack, const size_t *slots, Py_ssize_t count)
 {
-    Py_ssize_t *offsets = count - 1 <= FEW_GROUPS ? match->few : malloc((size_t)(count - 1) * 2 * sizeof *offsets);
-    if (!offsets) {
-        PyErr_NoMemory();
+    Py_ssize_t *offsets = room_for_offsets(match, count);
+    if (!offsets)
         return -1;
-    }
     if (!haystack->has_characters)
-        for (Py_ssize_t i = 0; i < 2 * (count - 1); i++)
-            offsets[i] = (Py_ssize_t)slots[2 + i];
+        copy_offsets(offsets, slots, count);
     else if (slots[1] - slots[0] == (size_t)(match->end - match->start))
         move_offsets(match, slots, count, offsets);
     else
         count_offsets(match, haystack, slots, count, offsets);
-    match->offsets = offsets;
     return 0;
 }
 
@@ -1288,9 +1334,9 @@ static PyObject *match_group(PyObject *self, PyObject *const *args, Py_ssize_t n
 }
 
 /* The part between two offsets, as `part_of`, or what stands for a group that took no part. */
-static inline PyObject *part_or(const Match *match, const char *bytes, const Py_ssize_t *pair, PyObject *otherwise)
+static inline PyObject *part_or(PyObject *haystack, const char *bytes, const Py_ssize_t *pair, PyObject *otherwise)
 {
-    return pair[0] < 0 ? new_reference(otherwise) : part_of(match->haystack, bytes, pair[0], pair[1]);
+    return pair[0] < 0 ? new_reference(otherwise) : part_of(haystack, bytes, pair[0], pair[1]);
 }
 
 /* The only parameter of groups and groupdict, if there is any argument. */
@@ -1315,6 +1361,39 @@ static inline int parse_default(const char *name, PyObject *const *args, Py_ssiz
     return nargs || keywords ? parse_default_of(name, args, nargs, keywords, parsed) : 0;
 }
 
+_Static_assert(FEW_GROUPS == 4, "so many objects are passed to PyTuple_Pack");
+
+/* The tuple of 1 to FEW_GROUPS groups. Packing a few objects costs less than setting each. PyTuple_Pack reads as many as it is told. */
+static inline PyObject *few_groups_of(const Match *match, const Py_ssize_t *offsets, Py_ssize_t count, PyObject *otherwise)
+{
+    PyObject *parts[FEW_GROUPS] = {NULL}, *haystack = match->haystack;
+    const char *bytes = constant_bytes_of(haystack);
+    for (Py_ssize_t i = 0; i < count; i++) {
+        parts[i] = part_or(haystack, bytes, offsets + 2 * i, otherwise);
+        if (parts[i])
+            continue;
+        while (i > 0)
+            Py_DECREF(parts[--i]);
+        return NULL;
+    }
+    PyObject *tuple = PyTuple_Pack(count, parts[0], parts[1], parts[2], parts[3]);
+    for (Py_ssize_t i = 0; i < count; i++)
+        Py_DECREF(parts[i]);
+    return tuple;
+}
+
+static __attribute__((noinline)) PyObject *many_groups_of(const Match *match, const Py_ssize_t *offsets, Py_ssize_t count, PyObject *otherwise)
+{
+    PyObject *parts = PyTuple_New(count);
+    const char *bytes = constant_bytes_of(match->haystack);
+    for (Py_ssize_t i = 0; parts && i < count; i++) {
+        PyObject *part = part_or(match->haystack, bytes, offsets + 2 * i, otherwise);
+        if (!part || PyTuple_SetItem(parts, i, part) < 0)
+            Py_CLEAR(parts);
+    }
+    return parts;
+}
+
 static PyObject *match_groups(PyObject *self, PyObject *const *args, Py_ssize_t nargs, PyObject *keywords)
 {
     Match *match = (Match *)self;
@@ -1322,15 +1401,12 @@ static PyObject *match_groups(PyObject *self, PyObject *const *args, Py_ssize_t 
     Py_ssize_t count = count_of(match);
     if (count < 0 || parse_default("groups", args, nargs, keywords, &otherwise) < 0)
         return NULL;
-    const Py_ssize_t *offsets = count > 1 ? offsets_of(match, count) : match->few;
-    PyObject *parts = offsets ? PyTuple_New(count - 1) : NULL;
-    const char *bytes = constant_bytes_of(match->haystack);
-    for (Py_ssize_t i = 0; parts && i < count - 1; i++) {
-        PyObject *part = part_or(match, bytes, offsets + 2 * i, otherwise);
-        if (!part || PyTuple_SetItem(parts, i, part) < 0)
-            Py_CLEAR(parts);
-    }
-    return parts;
+    if (count == 1)
+        return PyTuple_New(0);
+    const Py_ssize_t *offsets = offsets_of(match, count);
+    if (!offsets)
+        return NULL;
+    return count - 1 <= FEW_GROUPS ? few_groups_of(match, offsets, count - 1, otherwise) : many_groups_of(match, offsets, count - 1, otherwise);
 }
 
 static PyObject *match_groupdict(PyObject *self, PyObject *const *args, Py_ssize_t nargs, PyObject *keywords)
@@ -1348,7 +1424,7 @@ static PyObject *match_groupdict(PyObject *self, PyObject *const *args, Py_ssize
         PyObject *name = PyTuple_GetItem(names, i);
         if (name == Py_None)
             continue;
-        PyObject *part = part_or(match, bytes, offsets + 2 * (i - 1), otherwise);
+        PyObject *part = part_or(match->haystack, bytes, offsets + 2 * (i - 1), otherwise);
         if (!part || PyDict_SetItem(parts, name, part) < 0)
             Py_CLEAR(parts);
         Py_XDECREF(part);
@@ -1764,6 +1840,8 @@ typedef struct {
     Place place;
     /* How many matches of the regex were asked for their groups before these were found. */
     size_t asked_before;
+    /* Whether offsets count bytes, and matches aren't tracked. */
+    int is_quick;
 } Iterator;
 
 /* Before more matches are found: they are found with their groups, if the groups of most of the last ones were asked for. */
@@ -1794,22 +1872,48 @@ static __attribute__((noinline)) int refill(Iterator *self)
     return 0;
 }
 
+/* Adds its groups to the match of the last row, if they were searched for. */
+static inline PyObject *add_groups(const Scan *scan, Match *match)
+{
+    Py_ssize_t count = match && scan->width ? group_count(scan->matcher, match->pattern) : 0;
+    if (count > 1 && keep_offsets(match, &scan->haystack, slots_of(scan), count) < 0)
+        Py_CLEAR(match);
+    return (PyObject *)match;
+}
+
+/* The next match of any haystack. */
+static __attribute__((noinline)) PyObject *next_match(Iterator *self)
+{
+    Scan *scan = &self->scan;
+    if (scan->next == scan->count && !refill(self))
+        return NULL;
+    const hanneddois_match *row = &scan->rows[scan->next++];
+    size_t start = move_to(&self->position, &scan->haystack, row->start), end = move_to(&self->position, &scan->haystack, row->end);
+    return add_groups(scan, make_match(scan->matcher, scan->haystack.object, row, start, end, &self->place));
+}
+
+static __attribute__((noinline)) PyObject *add_many_groups(const Scan *scan, Match *match)
+{
+    return add_groups(scan, match);
+}
+
+/* Most matches are made by copying alone. Other calls are at the end, so that no registers are saved for them. */
 static PyObject *iterator_next(PyObject *object)
 {
     Iterator *self = (Iterator *)object;
     Scan *scan = &self->scan;
-    if (scan->next == scan->count && !refill(self))
-        return NULL;
-    const hanneddois_match *row = next_row(scan);
-    size_t start = move_to(&self->position, &scan->haystack, row->start);
-    Position position = self->position;
-    Match *match =
-        make_match(scan->matcher, scan->haystack.object, row, start, move_to(&position, &scan->haystack, row->end), &self->place);
-    if (!match || !scan->width)
+    if (scan->next == scan->count || !self->is_quick || !free_matches)
+        return next_match(self);
+    const hanneddois_match *row = &scan->rows[scan->next++];
+    Match *match = reuse_match();
+    fill_match(match, scan->matcher, scan->haystack.object, row, row->start, row->end, &self->place);
+    if (!scan->width)
         return (PyObject *)match;
     Py_ssize_t count = group_count(scan->matcher, match->pattern);
-    if (count > 1 && keep_offsets(match, &scan->haystack, slots_of(scan), count) < 0)
-        Py_CLEAR(match);
+    if (count - 1 > FEW_GROUPS)
+        return add_many_groups(scan, match);
+    if (count > 1)
+        copy_offsets(match->offsets = match->few, slots_of(scan), count);
     return (PyObject *)match;
 }
 
@@ -1845,6 +1949,7 @@ static PyObject *iterate(const char *name, PyObject *matcher, PyObject *const *a
     self->position = range.start;
     self->place = range.place;
     self->asked_before = ((Matcher *)matcher)->asked;
+    self->is_quick = !scan.haystack.has_characters && is_plain(scan.haystack.object);
     PyObject_GC_Track(self);
     return (PyObject *)self;
 }
@@ -2032,6 +2137,8 @@ typedef struct {
 
 static int add_bytes(Output *output, const void *bytes, size_t length)
 {
+    if (length == 0)
+        return 0;
     if (length > output->room - output->length) {
         size_t room = 2 * output->room + length + 64;
         char *grown = room < length ? NULL : realloc(output->bytes, room);

@@ -312,7 +312,8 @@ class LikeRe(unittest.TestCase):
 
     CASES = [(r"(\w+)=(?P<value>\d+)", "é a=12 bé=3"), (r"(a)|(b)", "xb"), (r"(a(b)?)+", "abaab"), (r"(a)(b?)", "a"), (r"((a)b)", "ab"),
              (r"(?P<year>\d{4})-(?P<month>\d\d)", "on 2024-12 and 2025-01"), (r"(é)(?:(x)|(y))", "éy éx"), (r"[]a]([)])(b)", "a)b]"),
-             (r"a|ab", "ab"), (r"\(([^)]*)\)", "f(x, y) g()"), ("none(x)?", "abc"), (r"(\s)", "a b c"), (r"(?:(a)|(b))*", "ba")]
+             (r"a|ab", "ab"), (r"\(([^)]*)\)", "f(x, y) g()"), ("none(x)?", "abc"), (r"(\s)", "a b c"), (r"(?:(a)|(b))*", "ba"), (r"(\w)(-)?(\d)", "a-1 é2 b3"),
+             (r"(a)(b)?(c)?(d)?", "abd é acd éa"), (r"(a)(b)?(c)?(d)?(e)?", "abde é ace éa"), (r"(a)(é)?(c)?(d)?(e)?(f)?", "aécdef é af éa")]
 
     @staticmethod
     def row(match):

@@ -80,7 +80,7 @@ same_count w f needs (line ∷ lines) (true ∷ wanted) =
     ∙ ap (λ n. length (shown_spans w f line) + n) (same_count w f needs lines wanted)
 same_count w f needs (line ∷ lines) (false ∷ wanted) = same_count w f needs lines wanted
 
-same_report : (p : Print) (w : OutputOptions) (f : LineMatcher) (name : List ℕ) (with_name : Bool) (known : SeparatorState) (lines : List
+pub same_report : (p : Print) (w : OutputOptions) (f : LineMatcher) (name : List ℕ) (with_name : Bool) (known : SeparatorState) (lines : List
     TextLine) →
     w.print ≡ p →
     report_as p w (with_needed_spans w f) name with_name known lines (selected w f lines)

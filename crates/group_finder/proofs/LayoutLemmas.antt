@@ -1,21 +1,25 @@
 -- The steps over a pattern write what its groups do.
-use Rattle.std.proofs.Common.{◌≡◌, ℕ, ◌+◌, ◌-◌, ◌*◌, ◌<◌, ◌≤◌, Bool, true, List, [], ◌∷◌, ◌++◌, All, length, reverse, Option, Some, None, IfSome, get_or, slice_index, drop, refl, get_or-drop, sym, ap, ◌∙◌, subst, inl, inr, ⊎_elim, arith}
+use Rattle.std.proofs.Common.{◌≡◌, ℕ, ◌+◌, ◌-◌, ◌*◌, ◌<◌, ◌≤◌, Bool, true, List, [], ◌∷◌, ◌++◌, All, length, reverse, Option, Some, None, IfSome, get_or, if◌then◌else◌, slice_index, drop, refl, get_or-drop, sym, ap, ◌∙◌, subst, inl, inr, ⊎_elim, arith}
 use Rattle.std.proofs.lemmas.Bool.{cases_lt}
-use Rattle.std.proofs.lemmas.List.{get_or_past, reverse-append}
+use Rattle.std.proofs.lemmas.List.{get_or_append_left, get_or_past, reverse-append}
 use Rattle.std.proofs.lemmas.List.Elements.{All-get_or}
 use Rattle.std.proofs.lemmas.Option.{none-some, same_Some}
-use Rattle.regex_hir.specs.Re.{Re, empty, literal, cat, group, Trace, Rest, accept, write, attempt}
+use Rattle.std.proofs.lemmas.Str.{length-encode, len_utf8_bounds}
+use Rattle.std.specs.Char.{encode_utf8, len_utf8}
+use Rattle.regex_class.specs.Ranges.{in_ranges}
+use Rattle.regex_hir.specs.Re.{Re, empty, literal, char_in, cat, group, Trace, Rest, accept, write, attempt}
 use Rattle.regex_hir.specs.Find.{last_write}
-use Rattle.regex_hir.specs.Text.{has_bytes_at}
+use Rattle.regex_hir.specs.Text.{char_at, has_bytes_at}
 use Rattle.regex_hir.proofs.OptionLemmas.{write_cases}
-use Rattle.regex_hir.proofs.AttemptLemmas.{cond_some}
-use Rattle.regex_hir.proofs.TextLemmas.{has_bytes_at_parts}
+use Rattle.regex_hir.proofs.AttemptLemmas.{cond_some, option_and_then_some}
+use Rattle.regex_hir.proofs.TextLemmas.{char_at_parts, has_bytes_at_parts}
 use Rattle.search_core.specs.ByteSets.{has}
+use Rattle.search_core.proofs.ForCallers.{Leads, encoded_spells, spelling_leads}
 use Rattle.group_finder.specs.declared.lengths.Lengths.{Lengths}
 use Rattle.group_finder.specs.declared.layout.Ahead.{Ahead}
 use Rattle.group_finder.specs.declared.steps.Step.{Step}
-use Rattle.group_finder.specs.declared.steps.Step.TheVariants.{Skip, Run, Save}
-use Rattle.group_finder.specs.Layouts.{AreApart, Covers, Fits, IsFirstByte, IsLayoutOf, IsMore, IsStepOver, Lays, Reads, ReadsTo, Starts, after_step, step_writes, steps_write}
+use Rattle.group_finder.specs.declared.steps.Step.TheVariants.{Skip, Run, Character, Save}
+use Rattle.group_finder.specs.Layouts.{AreApart, Covers, Fits, IsFirstByte, IsLayoutOf, IsMore, IsStepOver, Lays, Reads, ReadsTo, Starts, after_step, step_writes, steps_write, width_by}
 use Rattle.group_finder.proofs.ReadsLemmas.{not_true}
 use Rattle.group_finder.proofs.StepLemmas.{run_lands}
 
@@ -70,6 +74,26 @@ module _ (h : List ℕ) (bytes : All (λ x. x < 256) h) (set : List Bool) (n : L
       other)
       over
 
+-- a part that isn't empty goes on by a byte with which it may start, and an empty one as what follows does
+goes_on : (re : Re) (set : List Bool) (n : Lengths) (a next : Ahead) → Reads re set n →
+    (first : List Bool) × Starts re first set × Covers first next.follow × (n.least ≡ 0 → Covers a.follow next.follow) →
+    (h : List ℕ) → All (λ x. x < 256) h → (k : Rest) (steps : List Step) → Fits h steps a k → (i : ℕ) (t : Trace) →
+    attempt h re k i ≡ Some t → i < t.end → has next.follow (slice_index h i) ≡ true
+unfolding Reads
+goes_on re set n a next reads starts h bytes k steps fits i t e below =
+    let x = reads h bytes k i t e in
+    ⊎_elim
+    (λ (same : starts.0 ≡ set). ⊎_elim
+    (λ (some : i < x.at).
+    starts.2 (slice_index h i) (small_at h bytes i) (ap (λ (z : List Bool). has z (slice_index h i)) same ∙ x.bytes i (omega arith) some))
+    (λ (none : x.at ≤ i).
+    let here : x.at ≡ i = omega (arith, none, x.least) in
+    starts.3 (omega (arith, none, x.least)) (slice_index h i) (small_at h bytes i)
+    (ap (λ j. has a.follow (slice_index h j)) (sym here) ∙ fits.follow x.at t x.gave (omega (arith, here, below))))
+    (cases_lt i x.at))
+    (λ each. starts.2 (slice_index h i) (small_at h bytes i) (each h bytes k i t e))
+    starts.1
+
 pub lays_part : (re : Re) (set : List Bool) (n : Lengths) (old new : List Step) (a next : Ahead) (s : Step) (rest : Option ℕ) → Reads re set n →
     IsStepOver n set a s rest → new ≡ old ++ s ∷ [] → next.rest ≡ rest →
     (first : List Bool) × Starts re first set × Covers first next.follow × (n.least ≡ 0 → Covers a.follow next.follow) →
@@ -85,19 +109,49 @@ lays_part re set n old new a next s rest reads over pushed rest_is starts h byte
       ∙ sym (it.silent (steps_write h t.end (reverse old) (after_step h t.end s i)))
       ∙ ap (λ (ss : List Step). steps_write h t.end ss i) (sym (last_first old s new pushed));
   rest = λ i t e m is. rests h bytes set n a (reverse old) k fits s rest over i t (reads h bytes k i t e) m (sym rest_is ∙ is);
-  follow = λ i t e below.
-      let x = reads h bytes k i t e in
-      ⊎_elim
-      (λ (same : starts.0 ≡ set). ⊎_elim
-      (λ (some : i < x.at).
-      starts.2 (slice_index h i) (small_at h bytes i) (ap (λ (z : List Bool). has z (slice_index h i)) same ∙ x.bytes i (omega arith) some))
-      (λ (none : x.at ≤ i).
-      let here : x.at ≡ i = omega (arith, none, x.least) in
-      starts.3 (omega (arith, none, x.least)) (slice_index h i) (small_at h bytes i)
-      (ap (λ j. has a.follow (slice_index h j)) (sym here) ∙ fits.follow x.at t x.gave (omega (arith, here, below))))
-      (cases_lt i x.at))
-      (λ each. starts.2 (slice_index h i) (small_at h bytes i) (each h bytes k i t e))
-      starts.1;
+  follow = goes_on re set n a next reads starts h bytes k (reverse old) fits;
+}
+
+-- ---- a character
+leads_width : (a n : ℕ) → Leads a n → n ≡ width_by a
+leads_width a n h = grind arith
+
+width_at : (h : List ℕ) (i c : ℕ) → char_at h i ≡ Some c → len_utf8 c ≡ width_by (slice_index h i)
+width_at h i c found =
+    let parts = char_at_parts h i c found in
+    let start : i + 0 ≡ i = omega arith in
+    let first : get_or (encode_utf8 c) 0 0 ≡ slice_index h i =
+    sym (get_or_append_left (encode_utf8 c) (drop (i + len_utf8 c) h) 0 0 (omega (arith, length-encode c, len_utf8_bounds c)))
+    ∙ ap (λ (ys : List ℕ). get_or ys 0 0) (sym parts.1)
+    ∙ get_or-drop i h 0 0
+    ∙ ap (slice_index h) start in
+    sym (length-encode c)
+    ∙ leads_width _ _ (spelling_leads c (encode_utf8 c) (encoded_spells c (encode_utf8 c) parts.0 refl))
+    ∙ ap width_by first
+
+after_character : (rs : List (ℕ × ℕ)) (h : List ℕ) (k : Rest) (i : ℕ) (t : Trace) → attempt h (char_in rs) k i ≡ Some t →
+    (at : ℕ) × (k at ≡ Some t) × (at ≡ i + width_by (slice_index h i))
+unfolding attempt
+after_character rs h k i t e =
+    let c = option_and_then_some (λ (x : ℕ). if in_ranges rs x then k (i + len_utf8 x) else None) (char_at h i) t e in
+    let d = cond_some (in_ranges rs c.0) (k (i + len_utf8 c.0)) t c.2 in
+    (i + len_utf8 c.0, d.1, ap (λ n. i + n) (width_at h i c.0 c.1))
+
+pub lays_character : (re : Re) (rs : List (ℕ × ℕ)) (set : List Bool) (n : Lengths) (old new : List Step) (a next : Ahead) → re ≡ char_in rs →
+    Reads re set n → new ≡ old ++ Character ∷ [] → next.rest ≡ None →
+    (first : List Bool) × Starts re first set × Covers first next.follow × (n.least ≡ 0 → Covers a.follow next.follow) →
+    Lays re old a new next
+unfolding Lays Reads steps_write
+lays_character re rs set n old new a next is reads pushed rest_is starts h bytes k fits = record {
+  forward = λ i t e. let x = reads h bytes k i t e in omega (arith, x.least, fits.forward x.at t x.gave);
+  writes = λ i t e.
+      let y = after_character rs h k i t (subst (λ (r : Re). attempt h r k i ≡ Some t) is e) in
+      let moved : y.0 ≡ after_step h t.end Character i = omega (arith, y.2, fits.forward y.0 t y.1) in
+      fits.writes y.0 t y.1
+      ∙ ap (steps_write h t.end (reverse old)) moved
+      ∙ ap (λ (ss : List Step). steps_write h t.end ss i) (sym (last_first old Character new pushed));
+  rest = λ i t e m some. absurd (none-some m (sym rest_is ∙ some));
+  follow = goes_on re set n a next reads starts h bytes k (reverse old) fits;
 }
 
 -- ---- parts

@@ -3,7 +3,7 @@ use Rattle.std.proofs.Common.{◌≡◌, ℕ, zero, suc, ◌+◌, ◌-◌, ◌<�
 use Rattle.std.proofs.lemmas.Bool.{cond-true, cond-false, cases_lt}
 use Rattle.search_core.specs.ByteSets.{has}
 use Rattle.group_finder.specs.declared.steps.Step.{Step}
-use Rattle.group_finder.specs.declared.steps.Step.TheVariants.{Skip, Run, Rest, Save}
+use Rattle.group_finder.specs.declared.steps.Step.TheVariants.{Skip, Run, Character, Rest, Save}
 use Rattle.group_finder.specs.Slots.{no_offset}
 use Rattle.group_finder.specs.Layouts.{after_step, run_end, slots_laid, step_writes, steps_write, written}
 
@@ -42,6 +42,7 @@ after_one : (s : Step) (at : ℕ) (ws : List (ℕ × ℕ)) (slots : List ℕ) �
 unfolding written
 after_one (Skip n) at ws slots = refl
 after_one (Run set) at ws slots = refl
+after_one Character at ws slots = refl
 after_one (Rest n) at ws slots = refl
 after_one (Save slot) at ws slots = refl
 

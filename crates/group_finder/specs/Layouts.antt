@@ -1,5 +1,5 @@
 -- Layouts: the offsets of the groups of a match whose span is known, with no search.
-use Rattle.std.specs.Prelude.{◌≡◌, ℕ, zero, suc, ◌+◌, ◌-◌, ◌*◌, ◌<◌, ◌≤◌, ◌⊎◌, All, Bool, true, List, [], ◌∷◌, Option, Some, None, IfSome, IfNone, if◌then◌else◌, length, min, replicate, reverse, vec_len, slice_index, slice_set}
+use Rattle.std.specs.Prelude.{◌≡◌, ℕ, zero, suc, ◌+◌, ◌-◌, ◌*◌, ◌<◌, ◌≤◌, ◌⊎◌, All, Bool, true, List, [], ◌∷◌, Option, Some, None, IfSome, IfNone, if◌then◌else◌, length, min, nat_lt, replicate, reverse, vec_len, slice_index, slice_set}
 use Rattle.std.specs.declared.alloc.Global.{Global}
 use Rattle.std.specs.declared.vec.Vec.{Vec}
 use Rattle.regex_hir.specs.Re.{Re, Rest, Trace, accept, attempt}
@@ -11,7 +11,7 @@ use Rattle.group_finder.specs.Slots.{no_offset}
 use Rattle.group_finder.specs.declared.lengths.Lengths.{Lengths}
 use Rattle.group_finder.specs.declared.layout.Ahead.{Ahead}
 use Rattle.group_finder.specs.declared.steps.Step.{Step}
-use Rattle.group_finder.specs.declared.steps.Step.TheVariants.{Skip, Run, Rest as ToRest, Save}
+use Rattle.group_finder.specs.declared.steps.Step.TheVariants.{Skip, Run, Character, Rest as ToRest, Save}
 
 -- ---- what steps write
 
@@ -20,10 +20,15 @@ unfoldable pub run_end : List Bool → List ℕ → ℕ → ℕ → ℕ
 run_end set h zero at = at
 run_end set h (suc n) at = if has set (slice_index h at) then run_end set h n (at + 1) else at
 
+-- How many bytes a character has that starts with this byte.
+abbrev pub width_by : ℕ → ℕ
+width_by b = if nat_lt b 0x80 then 1 else if nat_lt b 0xE0 then 2 else if nat_lt b 0xF0 then 3 else 4
+
 -- The offset after a step, from an offset on, in a match with this end.
 abbrev pub after_step : List ℕ → ℕ → Step → ℕ → ℕ
 after_step h end (Skip n) at = min (at + n) end
 after_step h end (Run set) at = run_end set h (end - at) at
+after_step h end Character at = min (at + width_by (slice_index h at)) end
 after_step h end (ToRest n) at = end - n
 after_step h end (Save slot) at = at
 
@@ -32,6 +37,7 @@ abbrev pub step_writes : Step → ℕ → List (ℕ × ℕ) → List (ℕ × ℕ
 step_writes (Save slot) at ws = (slot, at) ∷ ws
 step_writes (Skip n) at ws = ws
 step_writes (Run set) at ws = ws
+step_writes Character at ws = ws
 step_writes (ToRest n) at ws = ws
 
 -- What steps write, from an offset on, in a match with this end.

@@ -2,7 +2,7 @@
 ghost use Rattle.std.specs.Prelude.{◌≡◌, Bool, List, IfOk, IfSome, map, true};
 ghost use Rattle.regex_hir.specs.Re.{group};
 ghost use Rattle.regex_hir.specs.Meaning.{cat_all, meaning};
-ghost use Rattle.group_finder.specs.Layouts.{AreApart, Covers, IsFirstByte, IsLayoutOf, IsMore, IsStepOver, Lays, Starts};
+ghost use Rattle.group_finder.specs.Layouts.{AreApart, Covers, IsFirstByte, IsLayoutOf, IsMore, IsStepOver, Lays, Reads, Starts};
 
 use crate::lengths::{Lengths, lengths_of};
 use crate::steps::Step;
@@ -105,8 +105,28 @@ fn before(hir: &Hir, lengths: Lengths, set: ByteSet, rest: Option<usize>, ahead:
     Ahead { rest, follow }
 }
 
+/// Adds the step over a class of characters, and returns what is known before it. There is none for other trees.
+fn add_character(
+    hir: &Hir,
+    lengths: Lengths,
+    set: ByteSet,
+    steps: &mut Vec<Step>,
+    ahead: Ahead,
+) -> Result<Option<Ahead>, AllocError>
+    requires { Reads (meaning hir.now) set lengths }
+    ensures { IfOk result (λ o. IfSome o (Lays (meaning hir.now) steps.old.items ahead steps.new.items)) }
+{
+    match hir {
+        Hir::Chars(_) => {
+            steps.push(Step::Character)?;
+            Ok(Some(before(hir, lengths, set, None, &ahead)))
+        }
+        _ => Ok(None),
+    }
+}
+
 /// Adds the step over a tree without groups, and returns what is known before it. There is none for a tree whose end depends on more than
-/// the bytes that it may read.
+/// the bytes that it may read, unless it is a class of characters.
 fn add_part(hir: &Hir, steps: &mut Vec<Step>, ahead: Ahead) -> Result<Option<Ahead>, AllocError>
     ensures { IfOk result (λ o. IfSome o (Lays (meaning hir.now) steps.old.items ahead steps.new.items)) }
 {
@@ -115,7 +135,7 @@ fn add_part(hir: &Hir, steps: &mut Vec<Step>, ahead: Ahead) -> Result<Option<Ahe
         return Ok(None);
     };
     let Some((step, rest)) = step_over(lengths, set, &ahead) else {
-        return Ok(None);
+        return add_character(hir, lengths, set, steps, ahead);
     };
     steps.push(step)?;
     Ok(Some(before(hir, lengths, set, rest, &ahead)))

@@ -1,6 +1,6 @@
 //! Steps along a match whose span is known, which write the offsets of its groups.
-ghost use Rattle.std.specs.Prelude.{◌≡◌, ◌≤◌, ◌-◌, [], length, slice_set};
-ghost use Rattle.group_finder.specs.Layouts.{after_step, run_end, slots_laid, step_writes, steps_write, written};
+ghost use Rattle.std.specs.Prelude.{◌≡◌, ◌≤◌, ◌+◌, ◌-◌, [], length, min, slice_index, slice_set};
+ghost use Rattle.group_finder.specs.Layouts.{after_step, run_end, slots_laid, step_writes, steps_write, width_by, written};
 
 use crate::slots::clear;
 use search_core::ByteSet;
@@ -12,6 +12,8 @@ pub(crate) enum Step {
     Skip(usize),
     /// Skips the bytes up to the first that isn't in the set.
     Run(ByteSet),
+    /// Skips the character that is spelled there.
+    Character,
     /// Goes to the offset so many bytes before the end of the match.
     Rest(usize),
     /// Writes the offset into the slot with this number.
@@ -31,6 +33,35 @@ fn run_to(set: &ByteSet, haystack: &[u8], from: usize, end: usize) -> usize
         }
     }
     end
+}
+
+/// How many bytes a character has that starts with this byte.
+#[inline(always)]
+fn width(first: u8) -> usize
+    ensures { result ≡ width_by first }
+{
+    if first < 0x80 {
+        1
+    } else if first < 0xE0 {
+        2
+    } else if first < 0xF0 {
+        3
+    } else {
+        4
+    }
+}
+
+/// The offset after the character that starts here, or `end` if the character ends after it.
+#[inline(always)]
+fn next_character(haystack: &[u8], at: usize, end: usize) -> usize
+    requires ordered { (at ≤ end) × (end ≤ length haystack.now) }
+    ensures is { result ≡ min (at + width_by (slice_index haystack.now at)) end }
+    ensures within { result ≤ end }
+{
+    if at == end {
+        return end;
+    }
+    at + (end - at).min(width(haystack[at]))
 }
 
 /// Writes an offset into the slot with this number, if there is one.
@@ -58,6 +89,7 @@ fn go(step: &Step, haystack: &[u8], at: usize, end: usize, slots: &mut [usize]) 
         }
         Step::Skip(count) => at + (end - at).min(*count),
         Step::Run(set) => run_to(set, haystack, at, end),
+        Step::Character => next_character(haystack, at, end),
         Step::Rest(count) => end.saturating_sub(*count),
     }
 }

@@ -26,6 +26,9 @@ text_value name text = key name ∷ string text ∷ []
 abbrev pub number_value : List ℕ → ℕ → List Token
 number_value name n = key name ∷ number (decimal n) ∷ []
 
+abbrev pub null_value : List ℕ → List Token
+null_value name = key name ∷ null ∷ []
+
 -- What is in an object for bytes: the text that they are, or the bytes in base64 if they aren't UTF-8.
 abbrev pub bytes_member : List ℕ → List Token
 bytes_member bytes =
@@ -55,8 +58,8 @@ path name = key (codes "path") ∷ bytes_value name
 abbrev pub begin_event : List ℕ → List Token
 begin_event name = event (codes "begin") (path name)
 
-abbrev pub span_pair : Span → ℕ × ℕ
-span_pair s = (s.start, s.end)
+abbrev pub span_ends : Span → ℕ × ℕ
+span_ends s = (s.start, s.end)
 
 -- The bytes between two offsets, or none if that isn't a part of the text.
 abbrev pub part : List ℕ → ℕ × ℕ → List ℕ
@@ -71,21 +74,23 @@ abbrev pub submatches : List ℕ → List (ℕ × ℕ) → List Token
 submatches text found = key (codes "submatches") ∷ array (flat_map (submatch text) found)
 
 abbrev pub line_number : Option ℕ → List Token
-line_number None = key (codes "line_number") ∷ null ∷ []
+line_number None = null_value (codes "line_number")
 line_number (Some n) = number_value (codes "line_number") n
 
 abbrev pub kind_name : Kind → List ℕ
 kind_name Match = codes "match"
 kind_name Context = codes "context"
 
--- A line, or adjacent lines that are printed as one: the number of the first line if it is printed, the offset of the first byte, the bytes
--- with each line feed, and the matches that are shown, as offsets in these bytes.
+-- What an event has of a line, or of adjacent lines, besides its matches: the bytes with each line feed, the number of the first line if it
+-- is printed, and the offset of the first byte.
+abbrev pub content : Option ℕ → ℕ → List ℕ → List Token
+content first place bytes = key (codes "lines") ∷ (bytes_value bytes
+    ++ (line_number first ++ number_value (codes "absolute_offset") place))
+
+-- A line, or adjacent lines that are printed as one, with the matches that are shown, as offsets in the bytes.
 abbrev pub lines_event : List ℕ → Kind → Option ℕ → ℕ → List ℕ → List (ℕ × ℕ) → List Token
-lines_event name kind first place bytes found = event (kind_name kind) (path name
-    ++ (key (codes "lines") ∷ (bytes_value bytes
-    ++ (line_number first
-    ++ (number_value (codes "absolute_offset") place
-    ++ submatches bytes found)))))
+lines_event name kind first place bytes found =
+    event (kind_name kind) (path name ++ (content first place bytes ++ submatches bytes found))
 
 -- ---- what was searched
 
@@ -101,32 +106,36 @@ abbrev pub elapsed : Elapsed → List Token
 elapsed t = key (codes "elapsed") ∷ object (number_value (codes "secs") t.secs
     ++ (number_value (codes "nanos") t.nanos ++ text_value (codes "human") (human t)))
 
-abbrev pub stats : Stats → List Token
-stats s = key (codes "stats") ∷ object (elapsed s.elapsed
-    ++ (number_value (codes "searches") s.searches
-    ++ (number_value (codes "searches_with_match") s.searches_with_match
-    ++ (number_value (codes "bytes_searched") s.bytes_searched
-    ++ (number_value (codes "bytes_printed") s.bytes_printed
-    ++ (number_value (codes "matched_lines") s.matched_lines
-    ++ number_value (codes "matches") s.matches))))))
+abbrev pub input_counts : Stats → List Token
+input_counts s = number_value (codes "searches") s.searches ++ number_value (codes "searches_with_match") s.searches_with_match
+
+abbrev pub search_counts : Stats → List Token
+search_counts s = input_counts s
+    ++ (number_value (codes "bytes_searched") s.bytes_searched ++ number_value (codes "bytes_printed") s.bytes_printed)
+
+abbrev pub match_counts : Stats → List Token
+match_counts s = number_value (codes "matched_lines") s.matched_lines ++ number_value (codes "matches") s.matches
+
+abbrev pub statistics : Stats → List Token
+statistics s = key (codes "stats") ∷ object (elapsed s.elapsed ++ (search_counts s ++ match_counts s))
 
 abbrev pub end_event : List ℕ → Stats → List Token
-end_event name s = event (codes "end") (path name ++ (key (codes "binary_offset") ∷ null ∷ stats s))
+end_event name s = event (codes "end") (path name ++ (null_value (codes "binary_offset") ++ statistics s))
 
 -- In the summary, the parts are in the order of their names.
 abbrev pub sorted_elapsed : List ℕ → Elapsed → List Token
 sorted_elapsed name t = key name ∷ object (text_value (codes "human") (human t)
     ++ (number_value (codes "nanos") t.nanos ++ number_value (codes "secs") t.secs))
 
-abbrev pub sorted_stats : Stats → List Token
-sorted_stats s = key (codes "stats") ∷ object (number_value (codes "bytes_printed") s.bytes_printed
-    ++ (number_value (codes "bytes_searched") s.bytes_searched
-    ++ (sorted_elapsed (codes "elapsed") s.elapsed
-    ++ (number_value (codes "matched_lines") s.matched_lines
-    ++ (number_value (codes "matches") s.matches
-    ++ (number_value (codes "searches") s.searches
-    ++ number_value (codes "searches_with_match") s.searches_with_match))))))
+abbrev pub byte_counts : Stats → List Token
+byte_counts s = number_value (codes "bytes_printed") s.bytes_printed ++ number_value (codes "bytes_searched") s.bytes_searched
+
+abbrev pub sorted_statistics : Stats → List Token
+sorted_statistics s = key (codes "stats") ∷ object (byte_counts s
+    ++ (sorted_elapsed (codes "elapsed") s.elapsed ++ (match_counts s ++ input_counts s)))
+
+abbrev pub summary_data : Stats → Elapsed → List Token
+summary_data s total = object (sorted_elapsed (codes "elapsed_total") total ++ sorted_statistics s)
 
 abbrev pub summary_event : Stats → Elapsed → List Token
-summary_event s total = object (key (codes "data") ∷ (object (sorted_elapsed (codes "elapsed_total") total ++ sorted_stats s)
-    ++ text_value (codes "type") (codes "summary")))
+summary_event s total = object (key (codes "data") ∷ (summary_data s total ++ text_value (codes "type") (codes "summary")))

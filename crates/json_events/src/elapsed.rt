@@ -2,7 +2,7 @@
 ghost use Rattle.std.specs.Prelude.{◌≡◌, ◌++◌, IfOk, OnOk, replicate, string_bytes};
 ghost use Rattle.json_events.specs.Events.{elapsed, human, sorted_elapsed};
 
-use crate::values::write_number;
+use crate::values::{begin_member, write_number, write_text};
 use json::Writer;
 use std::alloc::{AllocError, Global};
 
@@ -49,13 +49,12 @@ pub(crate) fn write_elapsed(
     ensures tokens { OnOk result (writer.new.tokens ≡ writer.old.tokens ++ elapsed time) }
 {
     let text = human(alloc, time)?;
-    writer.key("elapsed")?;
-    writer.begin_object()?;
+    begin_member(writer, "elapsed")?;
     write_number(writer, "secs", time.secs)?;
     write_number(writer, "nanos", time.nanos)?;
-    writer.key("human")?;
-    writer.string(text.as_str())?;
-    writer.end_object()
+    write_text(writer, "human", text.as_str())?;
+    writer.end_object()?;
+    Ok(())
 }
 
 /// Appends a time after this key, with its parts in the order of the summary.
@@ -69,11 +68,10 @@ pub(crate) fn write_sorted_elapsed(
     ensures tokens { OnOk result (writer.new.tokens ≡ writer.old.tokens ++ sorted_elapsed name.now time) }
 {
     let text = human(alloc, time)?;
-    writer.key(name)?;
-    writer.begin_object()?;
-    writer.key("human")?;
-    writer.string(text.as_str())?;
+    begin_member(writer, name)?;
+    write_text(writer, "human", text.as_str())?;
     write_number(writer, "nanos", time.nanos)?;
     write_number(writer, "secs", time.secs)?;
-    writer.end_object()
+    writer.end_object()?;
+    Ok(())
 }

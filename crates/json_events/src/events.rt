@@ -1,10 +1,12 @@
 //! Objects, each as a line.
-ghost use Rattle.std.specs.Prelude.{◌≡◌, ◌++◌, IfOk, OnOk, map};
-ghost use Rattle.json_events.specs.Events.{begin_event, end_event, event_start, kind_name, line_number, as_line, lines_event, part, path, span_pair, submatch, submatches, summary_event};
+ghost use Rattle.std.specs.Prelude.{◌≡◌, ◌++◌, ◌∷◌, [], OnOk, map};
+ghost use Rattle.json.specs.Token.{end_object};
+ghost use Rattle.json_events.specs.Events.{as_line, begin_event, content, end_event, event_start, kind_name, line_number, lines_event, part, path};
+ghost use Rattle.json_events.specs.Events.{span_ends, submatch, submatches, summary_data, summary_event};
 
 use crate::elapsed::{Elapsed, write_sorted_elapsed};
 use crate::stats::{Stats, write_sorted_stats, write_stats};
-use crate::values::{write_data, write_number};
+use crate::values::{write_data, write_null, write_number, write_text};
 use json::Writer;
 use search_types::Span;
 use std::alloc::{AllocError, Global};
@@ -34,7 +36,7 @@ pub struct Lines<'a> {
 
 /// The part of a text between two offsets.
 fn part(text: &[u8], span: Span) -> &[u8]
-    ensures { result.now ≡ part text.now (span_pair span) }
+    ensures { result.now ≡ part text.now (span_ends span) }
 {
     match text.get(span.start..span.end) {
         Some(part) => part,
@@ -70,16 +72,30 @@ fn write_path(alloc: Global, writer: &mut Writer, name: &[u8]) -> Result<(), All
     ensures tokens { OnOk result (writer.new.tokens ≡ writer.old.tokens ++ path name.now) }
 {
     writer.key("path")?;
-    write_data(alloc, writer, name)
+    write_data(alloc, writer, name)?;
+    Ok(())
 }
 
-/// Ends the data and the object, and appends them as a line.
+/// Appends an object as a line.
 fn finish(out: &mut Vec<u8>, writer: Writer) -> Result<(), AllocError>
-    ensures { OnOk result (out.new.items ≡ out.old.items ++ (writer.before ++ as_line writer.tokens)) }
+    requires { writer.before ≡ [] }
+    ensures { OnOk result (out.new.items ≡ out.old.items ++ as_line writer.tokens) }
 {
     let text = writer.into_inner();
     out.extend_from_slice(&text)?;
     out.push(b'\n')?;
+    Ok(())
+}
+
+/// Ends the data and the object, and appends it as a line.
+fn finish_event(out: &mut Vec<u8>, writer: Writer) -> Result<(), AllocError>
+    requires { writer.before ≡ [] }
+    ensures { OnOk result (out.new.items ≡ out.old.items ++ as_line (writer.tokens ++ end_object ∷ end_object ∷ [])) }
+{
+    let mut writer = writer;
+    writer.end_object()?;
+    writer.end_object()?;
+    finish(out, writer)?;
     Ok(())
 }
 
@@ -90,9 +106,8 @@ pub fn push_begin(alloc: Global, out: &mut Vec<u8>, name: &[u8]) -> Result<(), A
     let mut writer = Writer::new(Vec::new(alloc));
     begin(&mut writer, "begin")?;
     write_path(alloc, &mut writer, name)?;
-    writer.end_object()?;
-    writer.end_object()?;
-    finish(out, writer)
+    finish_event(out, writer)?;
+    Ok(())
 }
 
 /// Appends a match.
@@ -103,14 +118,15 @@ fn write_submatch(
     span: Span,
 ) -> Result<(), AllocError>
     ensures before { writer.new.before ≡ writer.old.before }
-    ensures tokens { OnOk result (writer.new.tokens ≡ writer.old.tokens ++ submatch text.now (span_pair span)) }
+    ensures tokens { OnOk result (writer.new.tokens ≡ writer.old.tokens ++ submatch text.now (span_ends span)) }
 {
     writer.begin_object()?;
     writer.key("match")?;
     write_data(alloc, writer, part(text, span))?;
     write_number(writer, "start", span.start as u64)?;
     write_number(writer, "end", span.end as u64)?;
-    writer.end_object()
+    writer.end_object()?;
+    Ok(())
 }
 
 /// Appends the matches.
@@ -121,14 +137,15 @@ fn write_submatches(
     found: &[Span],
 ) -> Result<(), AllocError>
     ensures before { writer.new.before ≡ writer.old.before }
-    ensures tokens { OnOk result (writer.new.tokens ≡ writer.old.tokens ++ submatches text.now (map span_pair found.now)) }
+    ensures tokens { OnOk result (writer.new.tokens ≡ writer.old.tokens ++ submatches text.now (map span_ends found.now)) }
 {
     writer.key("submatches")?;
     writer.begin_array()?;
     for span in found {
         write_submatch(alloc, writer, text, *span)?;
     }
-    writer.end_array()
+    writer.end_array()?;
+    Ok(())
 }
 
 /// Appends the number of a line, or that there is none.
@@ -138,11 +155,20 @@ fn write_line_number(writer: &mut Writer, number: Option<u64>) -> Result<(), All
 {
     match number {
         Some(number) => write_number(writer, "line_number", number),
-        None => {
-            writer.key("line_number")?;
-            writer.null()
-        }
+        None => write_null(writer, "line_number"),
     }
+}
+
+/// Appends what an event has of lines besides their matches.
+fn write_content(alloc: Global, writer: &mut Writer, lines: Lines<'_>) -> Result<(), AllocError>
+    ensures before { writer.new.before ≡ writer.old.before }
+    ensures tokens { OnOk result (writer.new.tokens ≡ writer.old.tokens ++ content lines.entry.number lines.entry.place lines.entry.bytes.now) }
+{
+    writer.key("lines")?;
+    write_data(alloc, writer, lines.bytes)?;
+    write_line_number(writer, lines.number)?;
+    write_number(writer, "absolute_offset", lines.place)?;
+    Ok(())
 }
 
 /// Appends a line, or adjacent lines, as a line.
@@ -153,19 +179,15 @@ pub fn push_lines(
     lines: Lines<'_>,
 ) -> Result<(), AllocError>
     ensures { OnOk result (out.new.items ≡ out.old.items ++ as_line (lines_event name.now lines.entry.kind lines.entry.number lines.entry.place
-        lines.entry.bytes.now (map span_pair lines.entry.found.now))) }
+        lines.entry.bytes.now (map span_ends lines.entry.found.now))) }
 {
     let mut writer = Writer::new(Vec::new(alloc));
     begin(&mut writer, kind_name(lines.kind))?;
     write_path(alloc, &mut writer, name)?;
-    writer.key("lines")?;
-    write_data(alloc, &mut writer, lines.bytes)?;
-    write_line_number(&mut writer, lines.number)?;
-    write_number(&mut writer, "absolute_offset", lines.place)?;
+    write_content(alloc, &mut writer, lines)?;
     write_submatches(alloc, &mut writer, lines.bytes, lines.found)?;
-    writer.end_object()?;
-    writer.end_object()?;
-    finish(out, writer)
+    finish_event(out, writer)?;
+    Ok(())
 }
 
 /// Appends the line that ends the objects of an input.
@@ -180,12 +202,27 @@ pub fn push_end(
     let mut writer = Writer::new(Vec::new(alloc));
     begin(&mut writer, "end")?;
     write_path(alloc, &mut writer, name)?;
-    writer.key("binary_offset")?;
-    writer.null()?;
+    write_null(&mut writer, "binary_offset")?;
     write_stats(alloc, &mut writer, stats)?;
+    finish_event(out, writer)?;
+    Ok(())
+}
+
+/// Appends the data of the summary.
+fn write_summary_data(
+    alloc: Global,
+    writer: &mut Writer,
+    stats: Stats,
+    total: Elapsed,
+) -> Result<(), AllocError>
+    ensures before { writer.new.before ≡ writer.old.before }
+    ensures tokens { OnOk result (writer.new.tokens ≡ writer.old.tokens ++ summary_data stats total) }
+{
+    writer.begin_object()?;
+    write_sorted_elapsed(alloc, writer, "elapsed_total", total)?;
+    write_sorted_stats(alloc, writer, stats)?;
     writer.end_object()?;
-    writer.end_object()?;
-    finish(out, writer)
+    Ok(())
 }
 
 /// Appends the summary, as a line. Its parts are in the order of their names.
@@ -200,12 +237,9 @@ pub fn push_summary(
     let mut writer = Writer::new(Vec::new(alloc));
     writer.begin_object()?;
     writer.key("data")?;
-    writer.begin_object()?;
-    write_sorted_elapsed(alloc, &mut writer, "elapsed_total", total)?;
-    write_sorted_stats(alloc, &mut writer, stats)?;
+    write_summary_data(alloc, &mut writer, stats, total)?;
+    write_text(&mut writer, "type", "summary")?;
     writer.end_object()?;
-    writer.key("type")?;
-    writer.string("summary")?;
-    writer.end_object()?;
-    finish(out, writer)
+    finish(out, writer)?;
+    Ok(())
 }

@@ -1,9 +1,9 @@
 //! What was searched and found.
 ghost use Rattle.std.specs.Prelude.{◌≡◌, ◌++◌, OnOk};
-ghost use Rattle.json_events.specs.Events.{sorted_stats, stats};
+ghost use Rattle.json_events.specs.Events.{byte_counts, input_counts, match_counts, search_counts, sorted_statistics, statistics};
 
 use crate::elapsed::{Elapsed, write_elapsed, write_sorted_elapsed};
-use crate::values::write_number;
+use crate::values::{begin_member, write_number};
 use json::Writer;
 use std::alloc::{AllocError, Global};
 
@@ -24,6 +24,28 @@ pub struct Stats {
     pub matches: u64,
 }
 
+/// Appends how much was searched and printed.
+fn write_searches(writer: &mut Writer, stats: Stats) -> Result<(), AllocError>
+    ensures before { writer.new.before ≡ writer.old.before }
+    ensures tokens { OnOk result (writer.new.tokens ≡ writer.old.tokens ++ search_counts stats) }
+{
+    write_number(writer, "searches", stats.searches)?;
+    write_number(writer, "searches_with_match", stats.searches_with_match)?;
+    write_number(writer, "bytes_searched", stats.bytes_searched)?;
+    write_number(writer, "bytes_printed", stats.bytes_printed)?;
+    Ok(())
+}
+
+/// Appends how much was found.
+fn write_matches(writer: &mut Writer, stats: Stats) -> Result<(), AllocError>
+    ensures before { writer.new.before ≡ writer.old.before }
+    ensures tokens { OnOk result (writer.new.tokens ≡ writer.old.tokens ++ match_counts stats) }
+{
+    write_number(writer, "matched_lines", stats.matched_lines)?;
+    write_number(writer, "matches", stats.matches)?;
+    Ok(())
+}
+
 /// Appends the statistics of an input.
 pub(crate) fn write_stats(
     alloc: Global,
@@ -31,18 +53,44 @@ pub(crate) fn write_stats(
     stats: Stats,
 ) -> Result<(), AllocError>
     ensures before { writer.new.before ≡ writer.old.before }
-    ensures tokens { OnOk result (writer.new.tokens ≡ writer.old.tokens ++ stats stats) }
+    ensures tokens { OnOk result (writer.new.tokens ≡ writer.old.tokens ++ statistics stats) }
 {
-    writer.key("stats")?;
-    writer.begin_object()?;
+    begin_member(writer, "stats")?;
     write_elapsed(alloc, writer, stats.elapsed)?;
+    write_searches(writer, stats)?;
+    write_matches(writer, stats)?;
+    writer.end_object()?;
+    Ok(())
+}
+
+/// Appends how many bytes were printed and searched.
+fn write_sorted_bytes(writer: &mut Writer, stats: Stats) -> Result<(), AllocError>
+    ensures before { writer.new.before ≡ writer.old.before }
+    ensures tokens { OnOk result (writer.new.tokens ≡ writer.old.tokens ++ byte_counts stats) }
+{
+    write_number(writer, "bytes_printed", stats.bytes_printed)?;
+    write_number(writer, "bytes_searched", stats.bytes_searched)?;
+    Ok(())
+}
+
+/// Appends how many inputs were searched.
+fn write_sorted_searches(writer: &mut Writer, stats: Stats) -> Result<(), AllocError>
+    ensures before { writer.new.before ≡ writer.old.before }
+    ensures tokens { OnOk result (writer.new.tokens ≡ writer.old.tokens ++ input_counts stats) }
+{
     write_number(writer, "searches", stats.searches)?;
     write_number(writer, "searches_with_match", stats.searches_with_match)?;
-    write_number(writer, "bytes_searched", stats.bytes_searched)?;
-    write_number(writer, "bytes_printed", stats.bytes_printed)?;
-    write_number(writer, "matched_lines", stats.matched_lines)?;
-    write_number(writer, "matches", stats.matches)?;
-    writer.end_object()
+    Ok(())
+}
+
+/// Appends what was counted of all inputs, after the bytes.
+fn write_sorted_counts(writer: &mut Writer, stats: Stats) -> Result<(), AllocError>
+    ensures before { writer.new.before ≡ writer.old.before }
+    ensures tokens { OnOk result (writer.new.tokens ≡ writer.old.tokens ++ (match_counts stats ++ input_counts stats)) }
+{
+    write_matches(writer, stats)?;
+    write_sorted_searches(writer, stats)?;
+    Ok(())
 }
 
 /// Appends the statistics of all inputs, by name.
@@ -52,16 +100,12 @@ pub(crate) fn write_sorted_stats(
     stats: Stats,
 ) -> Result<(), AllocError>
     ensures before { writer.new.before ≡ writer.old.before }
-    ensures tokens { OnOk result (writer.new.tokens ≡ writer.old.tokens ++ sorted_stats stats) }
+    ensures tokens { OnOk result (writer.new.tokens ≡ writer.old.tokens ++ sorted_statistics stats) }
 {
-    writer.key("stats")?;
-    writer.begin_object()?;
-    write_number(writer, "bytes_printed", stats.bytes_printed)?;
-    write_number(writer, "bytes_searched", stats.bytes_searched)?;
+    begin_member(writer, "stats")?;
+    write_sorted_bytes(writer, stats)?;
     write_sorted_elapsed(alloc, writer, "elapsed", stats.elapsed)?;
-    write_number(writer, "matched_lines", stats.matched_lines)?;
-    write_number(writer, "matches", stats.matches)?;
-    write_number(writer, "searches", stats.searches)?;
-    write_number(writer, "searches_with_match", stats.searches_with_match)?;
-    writer.end_object()
+    write_sorted_counts(writer, stats)?;
+    writer.end_object()?;
+    Ok(())
 }

@@ -1,18 +1,14 @@
 -- What is appended for a match, and the line with all matches replaced.
-use Rattle.std.proofs.Common.{◌≡◌, ℕ, ◌+◌, ◌-◌, ◌*◌, ◌^◌, ◌<◌, ◌≤◌, All, List, [], ◌∷◌, ◌++◌, length, map, slice_range, Option, Some, None, option_map, refl, sym, ap, ap₂, ◌∙◌, subst, arith}
-use Rattle.std.proofs.lemmas.List.{length-map}
+use Rattle.std.proofs.Common.{◌≡◌, ℕ, ◌+◌, ◌-◌, ◌*◌, ◌^◌, ◌<◌, ◌≤◌, List, [], ◌∷◌, ◌++◌, length, slice_range, Option, Some, None, sym, ap, ◌∙◌, subst}
 use Rattle.std.specs.Option.{unwrap_or}
 use Rattle.regex_hir.specs.Re.{Re, accept, attempt}
 use Rattle.regex_hir.specs.Find.{Match, find, matches_from}
-use Rattle.regex_meta.specs.Programs.{pattern_of}
-use Rattle.regex_meta.specs.declared.program.Program.{Program}
 use Rattle.regex_vm.specs.Found.{group_cells}
 use Rattle.regex.specs.Replace.{replaced_by}
 use Rattle.regex.specs.Templates.{written_after}
 use Rattle.regex_syntax.specs.Grammar.{Names}
 use Rattle.pattern_search.specs.Searches.{span_of_match}
 use Rattle.pattern_search.specs.Texts.{AreReadAs}
-use Rattle.group_finder.specs.Slots.{offset_of_cell}
 use Rattle.templates.specs.Expansion.{IsReadFrom, template_text}
 use Rattle.templates.specs.Slots.{group_in}
 use Rattle.templates.specs.declared.template.Template.{Template}
@@ -36,17 +32,6 @@ writes_for how names res line template slots m own t old new appended read is ar
     (read (group_in line slots)
     ∙ written_so line m slots are inside all.1 short (most_groups names) long own template
     ∙ ap (λ (n : Names). written_after n (text_of_group (most_groups names) line m) template 0) is)
-
-pub slots_are : (m : Match) (start end : ℕ) (cells slots : List ℕ) → (start, end) ≡ span_of_match m → cells ≡ group_cells m (length cells) →
-    slots ≡ start ∷ end ∷ map offset_of_cell cells → All (λ cell. cell < 2 ^ 64) cells → AreSlots m slots
-slots_are m start end cells slots span own is small =
-    let width : length slots - 2 ≡ length cells = omega (arith, ap length is, length-map cells offset_of_cell) in
-    let same : cells ≡ group_cells m (length slots - 2) = own ∙ ap (group_cells m) (sym width) in
-    record {
-      all = is
-          ∙ ap₂ (λ (s : ℕ × ℕ) xs. s.0 ∷ s.1 ∷ map offset_of_cell xs) span same;
-      small = subst (All (λ cell. cell < 2 ^ 64)) same small;
-    }
 
 -- the bytes and the spans so far, for the patterns as they are parsed
 abbrev pub AreReplacedTo : PatternOptions → List (List ℕ) → List ℕ → List ℕ → ℕ → List ℕ → List (ℕ × ℕ) → ℕ → Option ℕ → Type 0

@@ -1,5 +1,5 @@
 -- A tree that asks for no edge is its own line tree.
-use Rattle.std.proofs.Common.{◌≡◌, Bool, true, false, ◌||◌, refl, ap, ap₂}
+use Rattle.std.proofs.Common.{◌≡◌, Bool, false, refl, ap, ap₂}
 use Rattle.std.proofs.lemmas.Bool.{or_parts}
 use Rattle.look_core.specs.declared.look.Look.{Look}
 use Rattle.look_core.specs.declared.look.Look.TheVariants.{Start, End, StartLF, EndLF, StartCRLF, EndCRLF, WordAscii, WordAsciiNegate}

@@ -15,6 +15,7 @@ mod LoopLemmas
 mod NumberedLemmas
 mod OwnLemmas
 mod PartLemmas
+mod PlainLemmas
 mod RegexLemmas
 mod ReplaceLemmas
 pub mod SpanLemmas

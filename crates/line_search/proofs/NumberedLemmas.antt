@@ -1,5 +1,5 @@
 -- Which pattern a match is of, and the names of its groups.
-use Rattle.std.proofs.Common.{◌≡◌, ℕ, zero, suc, ◌+◌, ◌-◌, ◌<◌, ◌≤◌, ◌==◌, Bool, true, false, not, All, List, [], ◌∷◌, ◌++◌, length, map, take, get_or, slice_get, slice_index_or, chars, Option, Some, None, IsSomeAnd, option_map, Box, if◌then◌else◌}
+use Rattle.std.proofs.Common.{◌≡◌, ℕ, zero, suc, ◌+◌, ◌-◌, ◌<◌, ◌≤◌, ◌==◌, Bool, true, false, not, All, List, [], ◌∷◌, ◌++◌, length, take, get_or, slice_get, slice_index_or, chars, Option, Some, None, IsSomeAnd, option_map, Box, if◌then◌else◌}
 use Rattle.std.proofs.Common.{refl, sym, ap, ◌∙◌, subst, arith, ◌⊎◌, inl, inr, ⊎_elim}
 use Rattle.std.specs.Borrow.{Bor}
 use Rattle.std.proofs.lemmas.Bool.{cases_lt}
@@ -162,9 +162,6 @@ nat_cases j k before = ⊎_elim (λ (lt : j < k). inl lt) (λ (ge : k ≤ j). in
 abbrev pub NoneOf : PatternOptions → List (List ℕ) → List ℕ → ℕ → ℕ → Type 0
 NoneOf how ts line start n = (res : List Re) → AreReadAs (line_config how) ts res → (e : Re) (k : ℕ) → k < n →
     is_some (attempt line (bounded how (get_or res k e)) accept start) ≡ false
-
-pub none_yet : (how : PatternOptions) (ts : List (List ℕ)) (line : List ℕ) (start : ℕ) → NoneOf how ts line start 0
-none_yet how ts line start res read e k below = absurd (omega (arith, below))
 
 module _ (how : PatternOptions) (ts : List (List ℕ)) (ps : List (Box Program Global)) (so : AreProgramsOf how ts ps) (line : List ℕ) (start : ℕ) where
   -- what the program of one pattern reports, for what that is read as

@@ -85,14 +85,6 @@ module _ (a : Re) (line : List ℕ) (end : ℕ) where
       ap (λ t. if t then at (end + 1) else at end)
       (same_test (at end) ∙ ap (λ p. is_some_and p (λ s. s.1 == end)) (sym found.span_is) ∙ is)
 
-  pub stays : (o : Option (ℕ × ℕ)) (cells : List ℕ) → HasGroups (at end) o cells → is_some_and o (λ s. s.1 == end) ≡ false →
-      HasGroups (find_after at end) o cells
-  stays o cells found is = subst (λ m. HasGroups m o cells) (sym (test_is o cells false found is)) found
-
-  pub moves_on : (o : Option (ℕ × ℕ)) (cells : List ℕ) → HasGroups (at end) o cells → is_some_and o (λ s. s.1 == end) ≡ true →
-      (p : Option (ℕ × ℕ)) (now : List ℕ) → HasGroups (at (end + 1)) p now → HasGroups (find_after at end) p now
-  moves_on o cells found is p now next = subst (λ m. HasGroups m p now) (sym (test_is o cells true found is)) next
-
   no_groups : (m : Option Match) (cells : List ℕ) → m ≡ None → HasGroups m None cells
   no_groups m cells none =
       let it : HasGroups None None cells = record { span_is = refl; cells_are = tt } in

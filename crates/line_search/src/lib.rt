@@ -24,6 +24,7 @@ mod literal_lines;
 mod parsed_patterns;
 mod pattern_groups;
 mod patterns;
+mod plain_patterns;
 mod regexes;
 mod replacing;
 mod searcher;

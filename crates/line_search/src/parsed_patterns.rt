@@ -7,12 +7,13 @@ ghost use Rattle.line_search.specs.Searchers.{IsSearcherError};
 
 use crate::bounded::bounded_tree;
 use crate::joining::joined;
-use crate::patterns::{PatternOptions, config_of};
+use crate::patterns::PatternOptions;
+use crate::plain_patterns::parse_each;
 use crate::searcher::SearcherError;
 use hir_core::Hir;
 use hirscan::first_empty_loop;
 use lazy_dfa::BuildError;
-use pattern_search::{PatternError, parse_all};
+use pattern_search::PatternError;
 use std::alloc::{AllocError, Global};
 use std::marker::Model;
 
@@ -85,7 +86,7 @@ impl<'t> ParsedPatterns<'t> {
     ) -> ParsedPatterns<'t>
         ensures { result ≡ (how.now, map (λ t. t.now) texts.now) }
     {
-        let parsed = match parse_all(alloc, texts, &config_of(how)) {
+        let parsed = match parse_each(alloc, texts, how) {
             Ok(parsed) => parsed,
             Err(error) => {
                 return ParsedPatterns {

@@ -1,8 +1,9 @@
 -- What is still to be printed of a text as JSON events, step by step.
-use Rattle.std.proofs.Common.{◌≡◌, ◌≤◌, ◌<◌, ℕ, zero, suc, ◌+◌, ◌-◌, Bool, true, false, not, ◌&&◌, List, [], ◌∷◌, ◌++◌, length, map, take, drop, Option, Some, None, nat_lt}
-use Rattle.std.proofs.Common.{if◌then◌else◌, refl, sym, ap, ap₂, ◌∙◌, subst, append_assoc, arith, get_or, length-drop}
-use Rattle.std.specs.Borrow.{Bor}
-use Rattle.std.proofs.lemmas.Bool.{lt-ltb}
+use Rattle.std.proofs.Common.{◌≡◌, ◌≤◌, ◌<◌, ℕ, zero, suc, ◌+◌, ◌-◌, Bool, true, false, not, ◌&&◌, List, [], ◌∷◌, ◌++◌, length, map, take, drop, Option, Some, None, nat_lt, cond}
+use Rattle.std.proofs.Common.{if◌then◌else◌, refl, sym, ap, ap₂, ◌∙◌, subst, append_assoc, append-nil, arith, drop_of_length-le, length-drop}
+use Rattle.std.proofs.lemmas.Bool.{lt-ltb, ltb-false}
+use Rattle.std.proofs.lemmas.Option.{none-some, same_Some}
+use Rattle.std.specs.List.{position}
 use Rattle.json_events.specs.Events.{as_line, lines_event}
 use Rattle.line_search.specs.LineMatchers.{LineMatcher}
 use Rattle.line_search.specs.Lines.{SplitLine, TextLine, numbered}
@@ -14,7 +15,7 @@ use Rattle.grep_core.specs.declared.output_options.OutputOptions.{OutputOptions}
 use Rattle.grep_core.specs.declared.role.Role.{Role}
 use Rattle.grep_core.specs.declared.role.Role.TheVariants.{Beside, Hidden, Selected}
 use Rattle.text_report.specs.EventCourse.{flags_of, gap, selects}
-use Rattle.text_report.specs.Events.{EventItem, Printed, event_of, kind_of, shown_found, with_items}
+use Rattle.text_report.specs.Events.{EventItem, Printed, event_of, event_kind, shown_found, with_events}
 use Rattle.text_report.specs.LineSpans.{split_at}
 use Rattle.text_report.specs.Records.{records_of}
 
@@ -65,16 +66,41 @@ flags_end w f n rest none =
 lt_more : (a b : ℕ) → nat_lt (1 + a) (suc b) ≡ nat_lt a b
 lt_more a b = grind arith
 
+some_lt : (k : ℕ) → nat_lt 0 (suc k) ≡ true
+some_lt k = grind arith
+
 and_no : (x y : Bool) → y ≡ false → (x && y) ≡ false
 and_no true y e = e
 and_no false y e = refl
+
+some_at : (b : Bool) (k n : ℕ) → cond b (Some k) None ≡ Some n → n ≡ k
+some_at true k n e = sym (same_Some k n e)
+some_at false k n e = absurd (none-some n e)
+
+none_at : (b : Bool) (k : ℕ) → cond b (Some k) None ≡ None → b ≡ false
+none_at true k e = absurd (none-some k (sym e))
+none_at false k e = refl
+
+gap_within : (flags : List Bool) → gap flags ≤ length flags
+gap_within [] = omega arith
+gap_within (true ∷ bs) = omega arith
+gap_within (false ∷ bs) = omega (arith, gap_within bs)
+
+pub gap_found : (flags : List Bool) (n : ℕ) → position (λ flag. flag) flags ≡ Some n → n ≡ gap flags
+gap_found flags n e = some_at (nat_lt (gap flags) (length flags)) (gap flags) n e
+
+pub gap_whole : (flags : List Bool) → position (λ flag. flag) flags ≡ None → gap flags ≡ length flags
+gap_whole flags e =
+    let past : length flags ≤ gap flags =
+    ltb-false (gap flags) (length flags) (none_at (nat_lt (gap flags) (length flags)) (gap flags) e) in
+    omega (arith, past, gap_within flags)
 
 -- whether one of the next n lines is selected
 pub near : (flags : List Bool) (n : ℕ) → any (take n flags) ≡ (nat_lt (gap flags) (length flags) && nat_lt (gap flags) n)
 near [] zero = refl
 near [] (suc n) = refl
 near (b ∷ bs) zero = sym (and_no (nat_lt (gap (b ∷ bs)) (length (b ∷ bs))) (nat_lt (gap (b ∷ bs)) 0) (grind arith))
-near (true ∷ bs) (suc n) = refl
+near (true ∷ bs) (suc n) = sym (ap₂ (λ x y. x && y) (some_lt (length bs)) (some_lt n))
 near (false ∷ bs) (suc n) =
     near bs n ∙ sym (ap₂ (λ x y. x && y) (lt_more (gap bs) (length bs)) (lt_more (gap bs) n))
 
@@ -139,13 +165,22 @@ by_four F n m p q x y s t e1 e2 e3 e4 =
 
 pub event_is : (w : OutputOptions) (name : List ℕ) (role : Role) (it : EventItem) (number place : ℕ) (bytes : List ℕ)
     (found : List (ℕ × ℕ)) → number ≡ it.number → place ≡ it.place → bytes ≡ it.bytes → found ≡ shown_found w role it.found →
-    as_line (lines_event name (kind_of role) (if w.numbers then Some number else None) place bytes found) ≡ event_of w name role it
+    as_line (lines_event name (event_kind role) (if w.numbers then Some number else None) place bytes found) ≡ event_of w name role it
 event_is w name role it number place bytes found e1 e2 e3 e4 =
-    by_four (λ n p bs fs. as_line (lines_event name (kind_of role) (if w.numbers then Some n else None) p bs fs)) number it.number place
+    by_four (λ n p bs fs. as_line (lines_event name (event_kind role) (if w.numbers then Some n else None) p bs fs)) number it.number place
     it.place bytes it.bytes found (shown_found w role it.found) e1 e2 e3 e4
 
 -- nothing is printed after the last item
 pub no_items : (w : OutputOptions) (name : List ℕ) (rs : List Role) (items : List EventItem) (p : Printed) → items ≡ [] →
-    with_items w name rs items p ≡ p
+    with_events w name rs items p ≡ p
 no_items w name [] items p none = refl
-no_items w name (r ∷ rs) items p none = ap (λ it. with_items w name (r ∷ rs) it p) none
+no_items w name (r ∷ rs) items p none = ap (λ it. with_events w name (r ∷ rs) it p) none
+
+pub flags_all : (w : OutputOptions) (f : LineMatcher) (text : List ℕ) (flags : List Bool) (n at : ℕ) → length text ≤ at →
+    flags_of w f 0 (split_at w.terminator text) ≡ flags ++ flags_of w f n (split_at w.terminator (drop at text)) →
+    flags ≡ selected w f (records_of w text)
+flags_all w f text flags n at past kept =
+    sym (append-nil flags)
+    ∙ sym (ap (λ t. flags ++ t) (flags_end w f n (drop at text) (drop_of_length-le text past)))
+    ∙ sym kept
+    ∙ flags_first w f text

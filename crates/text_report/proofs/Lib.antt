@@ -1,4 +1,11 @@
 mod EventLemmas
+mod EventReportLemmas
 mod LineLemmas
+mod LineMatchLemmas
 mod OrderLemmas
+mod RecordLemmas
+mod RecordRows
+mod ReportLemmas
+mod SeenLemmas
 mod TouchingLemmas
+mod WholeTextLemmas

@@ -4,8 +4,8 @@ use Rattle.std.proofs.Common.{length-drop, length-take-le, drop-drop, take_all, 
 use Rattle.std.proofs.lemmas.Option.{none-some, same_Some}
 use Rattle.std.proofs.lemmas.Bool.{ltb-true, ltb-false, true≢false}
 use Rattle.std.specs.List.{position, position_or_len}
-use Rattle.line_search.specs.Lines.{SplitLine, TextLine, ended, numbered, put_first, unended}
-use Rattle.text_report.specs.LineSpans.{IsLineAt, content_of, line_of, lines_from, split_at, whole_end}
+use Rattle.line_search.specs.Lines.{ended, numbered, put_first, split_lines, text_lines, unended}
+use Rattle.text_report.specs.LineSpans.{IsLineAt, content_of, line_of, lines_from, split_at}
 use Rattle.text_report.specs.declared.lines.LineSpan.{LineSpan}
 
 some_at : (b : Bool) (k n : ℕ) → cond b (Some k) None ≡ Some n → (b ≡ true) × (k ≡ n)
@@ -177,3 +177,11 @@ module _ (t : ℕ) (text rest : List ℕ) (number start : ℕ) (within : start �
     split = alone_there;
     next = only;
   }
+
+-- split at line feeds, a text has its lines
+pub split_at_ten : (text : List ℕ) → split_at 10 text ≡ split_lines text
+split_at_ten [] = refl
+split_at_ten (b ∷ bs) = ap (λ lines. if b == 10 then ended [] ∷ lines else put_first b lines) (split_at_ten bs)
+
+pub lines_of_text : (text : List ℕ) → lines_from 10 text 1 0 ≡ text_lines text
+lines_of_text text = ap (numbered 1 0) (split_at_ten text)

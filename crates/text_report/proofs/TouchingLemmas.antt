@@ -1,11 +1,11 @@
 -- Matches of a text before a line, in it and after it.
-use Rattle.std.proofs.Common.{◌≡◌, ◌≤◌, ◌<◌, ℕ, zero, suc, ◌+◌, ◌&&◌, ◌||◌, Bool, true, false, cond, nat_le, nat_lt, not, List, [], ◌∷◌, ◌++◌, drop, get_or}
-use Rattle.std.proofs.Common.{length, map, refl, sym, ap, ap₂, ◌∙◌, subst, arith, append_assoc, append-nil, if◌then◌else◌}
+use Rattle.std.proofs.Common.{◌≡◌, ◌≤◌, ◌<◌, ℕ, zero, suc, ◌+◌, ◌&&◌, ◌||◌, Bool, true, false, cond, nat_le, nat_lt, List, [], ◌∷◌, ◌++◌, drop, get_or}
+use Rattle.std.proofs.Common.{length, map, refl, sym, ap, ◌∙◌, subst, arith, append_assoc, append-nil, if◌then◌else◌}
 use Rattle.std.proofs.Math.Seq.{drop-cons}
 use Rattle.std.specs.List.{filter, list_any}
 use Rattle.search_types.specs.declared.span.Span.{Span}
 use Rattle.line_search.specs.LineMatchers.{span_pair}
-use Rattle.text_report.specs.Touching.{AreBefore, AreInOrder, NoneStartsBefore, begins_at, counts_at, part_at, touches_at}
+use Rattle.text_report.specs.Touching.{AreInOrder, NoneStartsBefore, begins_at, counts_at, part_at, touches_at}
 
 le_false : (a b : ℕ) → b < a → nat_le a b ≡ false
 le_false a b less = grind (arith, less)
@@ -48,6 +48,10 @@ counts_after true start end s less = begins_after start end s less
 counts_after false start end s less = touches_after start end s less
 
 -- ---- a test of several matches
+abbrev has_item : List (ℕ × ℕ) → Bool
+has_item [] = false
+has_item (s ∷ found) = true
+
 module _ (p : ℕ × ℕ → Bool) where
   filter_one : (s : ℕ × ℕ) (found : List (ℕ × ℕ)) (b : Bool) → p s ≡ b → filter p (s ∷ found) ≡ (if b then s ∷ filter p found else filter p found)
   filter_one s found true e = ap (λ b. cond b (s ∷ filter p found) (filter p found)) e
@@ -57,17 +61,17 @@ module _ (p : ℕ × ℕ → Bool) where
   any_one s found b e = ap (λ t. t || list_any p found) e
 
   -- some match passes a test if any is left by it
-  any_more : (s : ℕ × ℕ) (found : List (ℕ × ℕ)) → list_any p found ≡ nat_lt 0 (length (filter p found)) → (b : Bool) → p s ≡ b →
-      list_any p (s ∷ found) ≡ nat_lt 0 (length (filter p (s ∷ found)))
-  any_more s found rest true e = any_one s found true e ∙ sym (ap (λ l. nat_lt 0 (length l)) (filter_one s found true e))
-  any_more s found rest false e = any_one s found false e ∙ rest ∙ sym (ap (λ l. nat_lt 0 (length l)) (filter_one s found false e))
+  any_more : (s : ℕ × ℕ) (found : List (ℕ × ℕ)) → list_any p found ≡ has_item (filter p found) → (b : Bool) → p s ≡ b →
+      list_any p (s ∷ found) ≡ has_item (filter p (s ∷ found))
+  any_more s found rest true e = any_one s found true e ∙ sym (ap has_item (filter_one s found true e))
+  any_more s found rest false e = any_one s found false e ∙ rest ∙ sym (ap has_item (filter_one s found false e))
 
-  any_by : (found : List (ℕ × ℕ)) → list_any p found ≡ nat_lt 0 (length (filter p found))
+  any_by : (found : List (ℕ × ℕ)) → list_any p found ≡ has_item (filter p found)
   any_by [] = refl
   any_by (s ∷ found) = any_more s found (any_by found) (p s) refl
 
   pub same_any : (a b : List (ℕ × ℕ)) → filter p a ≡ filter p b → list_any p a ≡ list_any p b
-  same_any a b same = any_by a ∙ ap (λ l. nat_lt 0 (length l)) same ∙ sym (any_by b)
+  same_any a b same = any_by a ∙ ap has_item same ∙ sym (any_by b)
 
 -- ---- matches in order
 pub weaker : (a b : ℕ) (found : List (ℕ × ℕ)) → a ≤ b → NoneStartsBefore b found → NoneStartsBefore a found
@@ -162,9 +166,9 @@ module _ (begun : Bool) (start end : ℕ) where
           let was = left order in (
             (order_there was.0).1,
             ap (λ l. l ++ parts_of rest) pushed
-            ∙ append_assoc now (parts_of (s ∷ [])) (parts_of rest)
-            ∙ ap (λ l. now ++ l) (sym (ap parts_of (at_index found k d below) ∙ parts_by size s rest (p s) refl))
-            ∙ was.1,
+                ∙ append_assoc now (parts_of (s ∷ [])) (parts_of rest)
+                ∙ ap (λ l. now ++ l) (sym (ap parts_of (at_index found k d below) ∙ parts_by size s rest (p s) refl))
+                ∙ was.1,
           )
 
       pub parts_end : end < (get_or found k d).start → PartsLeft k now → AreInOrder (map span_pair found) →

@@ -35,7 +35,7 @@ abbrev pub roles_left : OutputOptions → List Bool → Turn → List Role
 roles_left w flags turn = roles_from (before_of w.context) (after_of w.context) turn.left (drop turn.index flags)
 
 -- What is an item, with the matches that are shown of it.
-pub record IsItem (w : OutputOptions) (role : Role) (item : Item) (it : EventItem) : Type 0 where
+pub record IsEventItem (w : OutputOptions) (role : Role) (item : Item) (it : EventItem) : Type 0 where
   pub number : item.number ≡ it.number
   pub place : item.place ≡ it.place
   pub bytes : item.bytes.now ≡ it.bytes

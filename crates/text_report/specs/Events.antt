@@ -33,39 +33,39 @@ pub record Printed : Type 0 where
 abbrev pub printed : List ℕ → Counts → Printed
 printed bytes counts = record { bytes = bytes; counts = counts }
 
-abbrev pub counts : ℕ → ℕ → ℕ → Counts
-counts lines matches end = record { lines = lines; matches = matches; end = end }
+abbrev pub tally : ℕ → ℕ → ℕ → Counts
+tally lines matches end = record { lines = lines; matches = matches; end = end }
 
-abbrev pub kind_of : Role → Kind
-kind_of Selected = Match
-kind_of _ = Context
+abbrev pub event_kind : Role → Kind
+event_kind Selected = Match
+event_kind _ = Context
 
 -- The matches that an event for an item in this role has.
 abbrev pub shown_found : OutputOptions → Role → List (ℕ × ℕ) → List (ℕ × ℕ)
 shown_found w role found = if has_marks w role then found else []
 
 abbrev pub event_of : OutputOptions → List ℕ → Role → EventItem → List ℕ
-event_of w name role it = as_line (lines_event name (kind_of role) (if w.numbers then Some it.number else None) it.place it.bytes
+event_of w name role it = as_line (lines_event name (event_kind role) (if w.numbers then Some it.number else None) it.place it.bytes
     (shown_found w role it.found))
 
 -- What is printed after an item in this role.
-abbrev pub with_item : OutputOptions → List ℕ → Role → EventItem → Printed → Printed
-with_item w name Hidden it p = p
-with_item w name Beside it p =
-    printed (p.bytes ++ event_of w name Beside it) (counts p.counts.lines p.counts.matches (it.place + length it.bytes))
-with_item w name Selected it p =
+abbrev pub with_event : OutputOptions → List ℕ → Role → EventItem → Printed → Printed
+with_event w name Hidden it p = p
+with_event w name Beside it p =
+    printed (p.bytes ++ event_of w name Beside it) (tally p.counts.lines p.counts.matches (it.place + length it.bytes))
+with_event w name Selected it p =
     printed (p.bytes ++ event_of w name Selected it)
-    (counts (p.counts.lines + it.lines) (p.counts.matches + length (shown_found w Selected it.found)) (it.place + length it.bytes))
+    (tally (p.counts.lines + it.lines) (p.counts.matches + length (shown_found w Selected it.found)) (it.place + length it.bytes))
 
 -- What is printed after items in these roles.
-abbrev pub with_items : OutputOptions → List ℕ → List Role → List EventItem → Printed → Printed
-with_items w name [] items p = p
-with_items w name (r ∷ rs) [] p = p
-with_items w name (r ∷ rs) (it ∷ items) p = with_items w name rs items (with_item w name r it p)
+abbrev pub with_events : OutputOptions → List ℕ → List Role → List EventItem → Printed → Printed
+with_events w name [] items p = p
+with_events w name (r ∷ rs) [] p = p
+with_events w name (r ∷ rs) (it ∷ items) p = with_events w name rs items (with_event w name r it p)
 
 -- What is printed for items of which these are selected: the event at the beginning, and those of the items.
 abbrev pub printed_items : OutputOptions → List ℕ → List Bool → List EventItem → Printed
-printed_items w name wanted items = with_items w name (roles_of w wanted) items (printed (as_line (begin_event name)) (counts 0 0 0))
+printed_items w name wanted items = with_events w name (roles_of w wanted) items (printed (as_line (begin_event name)) (tally 0 0 0))
 
 abbrev pub no_stats : Stats
 no_stats = record {

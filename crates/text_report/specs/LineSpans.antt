@@ -16,7 +16,7 @@ lines_from t text number start = numbered number start (split_at t (drop start t
 abbrev pub content_of : List ℕ → LineSpan → SplitLine
 content_of text line = record { bytes = slice_range text line.start line.end; is_ended = line.is_ended }
 
--- The same with the number and the offset of the line.
+-- These bytes as a line with its number and its offset.
 abbrev pub line_of : List ℕ → LineSpan → TextLine
 line_of text line = record { number = line.number; place = line.start; content = content_of text line }
 

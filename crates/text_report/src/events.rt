@@ -1,5 +1,5 @@
 //! The JSON events of a text in memory.
-ghost use Rattle.std.specs.Prelude.{◌≡◌, ◌<◌, ◌≤◌, ◌+◌, ◌++◌, ℕ, List, [], IfErr, IfOk, None, OnOk, Some, length, map, take, true, if◌then◌else◌};
+ghost use Rattle.std.specs.Prelude.{◌≡◌, ◌<◌, ◌≤◌, ◌+◌, ◌++◌, ℕ, [], IfErr, IfOk, None, OnOk, Some, length, map, take, true, if◌then◌else◌};
 ghost use Rattle.std.specs.Io.KnownBytes.{Appends};
 ghost use Rattle.line_search.specs.LineMatchers.{span_pair};
 ghost use Rattle.line_search.specs.Searchers.{SearchesFor, found_by};
@@ -8,8 +8,8 @@ ghost use Rattle.grep_core.specs.Printing.{has_marks};
 ghost use Rattle.grep_core.specs.Report.{roles_of};
 ghost use Rattle.grep_core.specs.declared.role.Role.TheVariants.{Beside, Selected};
 ghost use Rattle.text_report.specs.LineSpans.{line_of, whole_end};
-ghost use Rattle.text_report.specs.Events.{EventItem, counts, full_stats, json_report, json_stats, line_item, no_stats, printed, printed_lines, shown_found, with_item, with_items};
-ghost use Rattle.text_report.specs.EventCourse.{IsItem, KnowsNext, line_items, roles_left};
+ghost use Rattle.text_report.specs.Events.{EventItem, tally, full_stats, json_report, json_stats, line_item, no_stats, printed, printed_lines, shown_found, with_event, with_events};
+ghost use Rattle.text_report.specs.EventCourse.{IsEventItem, KnowsNext, line_items, roles_left};
 
 use crate::lines::{LineSpan, line_at};
 use crate::selecting::select_lines;
@@ -68,7 +68,11 @@ fn push_event(
 {
     let lines = Lines {
         kind,
-        number: if what.numbers { Some(item.number) } else { None },
+        number: if what.numbers {
+            Some(item.number)
+        } else {
+            None
+        },
         place: item.place,
         bytes: item.bytes,
         found: item.found,
@@ -85,8 +89,8 @@ fn push_context(
     item: Item<'_>,
     counts: Counts,
 ) -> Result<Counts, Fault>
-    ensures { IfOk result (λ new. (it : EventItem) → IsItem what.now Beside item.entry it →
-        printed out.new.items new ≡ with_item what.now name.now Beside it (printed out.old.items counts)) }
+    ensures { IfOk result (λ new. (it : EventItem) → IsEventItem what.now Beside item.entry it →
+        printed out.new.items new ≡ with_event what.now name.now Beside it (printed out.old.items counts)) }
 {
     let end = match sum(item.place, item.bytes.len() as u64) {
         Ok(end) => end,
@@ -111,8 +115,8 @@ fn push_selected(
     item: Item<'_>,
     counts: Counts,
 ) -> Result<Counts, Fault>
-    ensures { IfOk result (λ new. (it : EventItem) → IsItem what.now Selected item.entry it →
-        printed out.new.items new ≡ with_item what.now name.now Selected it (printed out.old.items counts)) }
+    ensures { IfOk result (λ new. (it : EventItem) → IsEventItem what.now Selected item.entry it →
+        printed out.new.items new ≡ with_event what.now name.now Selected it (printed out.old.items counts)) }
 {
     let end = match sum(item.place, item.bytes.len() as u64) {
         Ok(end) => end,
@@ -146,8 +150,8 @@ pub(crate) fn push_item(
     item: Item<'_>,
     counts: Counts,
 ) -> Result<Counts, Fault>
-    ensures { IfOk result (λ new. (it : EventItem) → IsItem what.now role item.entry it →
-        printed out.new.items new ≡ with_item what.now name.now role it (printed out.old.items counts)) }
+    ensures { IfOk result (λ new. (it : EventItem) → IsEventItem what.now role item.entry it →
+        printed out.new.items new ≡ with_event what.now name.now role it (printed out.old.items counts)) }
 {
     match role {
         Role::Hidden => Ok(counts),
@@ -225,10 +229,11 @@ fn push_line(
     ensures same { finder.new ≡ finder.old }
     ensures reported { IfOk result (λ new. (by : SearchesFor finder.old true) →
         printed out.new.items new
-        ≡ with_item what.now name.now role (line_item (found_by by) text.now (line_of text.now line)) (printed out.old.items counts)) }
+        ≡ with_event what.now name.now role (line_item (found_by by) text.now (line_of text.now line)) (printed out.old.items counts)) }
 {
-    if role == Role::Hidden {
-        return Ok(counts);
+    match role {
+        Role::Hidden => return Ok(counts),
+        Role::Selected | Role::Beside => {}
     }
     let bytes = &text[line.start..line.end];
     let found = match shown_matches(alloc, finder, what, role, bytes, line.is_ended) {
@@ -268,9 +273,9 @@ fn push_next(
     ensures within { IfOk result (λ next. next ≤ length text.now) }
     ensures known { OnOk result (KnowsNext flags.now turn.new) }
     ensures goes_on { IfOk result (λ next. (by : SearchesFor finder.old true) →
-        with_items what.now name.now (roles_left what.now flags.now turn.old)
+        with_events what.now name.now (roles_left what.now flags.now turn.old)
         (line_items what.now (found_by by) text.now (turn.old.index + 1) at) (printed out.old.items counts.old)
-        ≡ with_items what.now name.now (roles_left what.now flags.now turn.new)
+        ≡ with_events what.now name.now (roles_left what.now flags.now turn.new)
         (line_items what.now (found_by by) text.now (turn.new.index + 1) next) (printed out.new.items counts.new)) }
 {
     let index = turn.index;
@@ -281,9 +286,7 @@ fn push_next(
         return Err(Fault::TooLong);
     };
     let role = take_role(what, flags, turn);
-    match push_line(
-        alloc, out, finder, what, name, text, role, line, *counts,
-    ) {
+    match push_line(alloc, out, finder, what, name, text, role, line, *counts) {
         Ok(new) => {
             *counts = new;
             Ok(line.whole_end())
@@ -305,8 +308,8 @@ fn push_all(
     ensures same { finder.new ≡ finder.old }
     ensures reported { IfOk result (λ new. (by : SearchesFor finder.old true) →
         printed out.new.items new
-        ≡ with_items what.now name.now (roles_of what.now flags.now) (line_items what.now (found_by by) text.now 1 0)
-        (printed out.old.items (counts 0 0 0))) }
+        ≡ with_events what.now name.now (roles_of what.now flags.now) (line_items what.now (found_by by) text.now 1 0)
+        (printed out.old.items (tally 0 0 0))) }
 {
     let mut counts = Counts {
         lines: 0,
@@ -339,15 +342,15 @@ fn push_all(
     Ok(counts)
 }
 
-/// The statistics of a text of this size, of which something is printed: so many bytes.
+/// The statistics of a text of this size, of which these bytes are printed before the event at the end.
 fn stats_of(
     what: &OutputOptions<'_>,
     time: Elapsed,
     size: usize,
-    bytes: usize,
+    out: &[u8],
     counts: Counts,
 ) -> Stats
-    ensures { (out : List ℕ) → bytes ≡ length out → result ≡ full_stats what.now time size (printed out counts) }
+    ensures { result ≡ full_stats what.now time size (printed out.now counts) }
 {
     let searched = if may_select(what, counts.lines) {
         size as u64
@@ -359,7 +362,7 @@ fn stats_of(
         searches: 1,
         searches_with_match: if counts.lines > 0 { 1 } else { 0 },
         bytes_searched: searched,
-        bytes_printed: bytes as u64,
+        bytes_printed: out.len() as u64,
         matched_lines: counts.lines,
         matches: counts.matches,
     }
@@ -433,7 +436,7 @@ fn push_report(
         out.clear();
         return Ok(no_stats());
     }
-    let stats = stats_of(what, time, text.len(), out.len(), counts);
+    let stats = stats_of(what, time, text.len(), out.as_slice(), counts);
     match push_end(alloc, out, name, stats) {
         Ok(()) => Ok(stats),
         Err(_) => Err(Fault::NoMemory),

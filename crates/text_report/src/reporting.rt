@@ -13,7 +13,7 @@ ghost use Rattle.text_report.specs.Touching.{AreBefore, AreInOrder, has_match_of
 
 use crate::lines::LineSpan;
 use crate::text_lines::{SeenLine, TextPosition, first_position, next_line, position_after};
-use crate::touching::push_parts;
+use crate::touching::{from_index, push_parts};
 use grep_core::{
     Line, OutputOptions, Reporter, SeparatorState, counted_as, counts_matches, first_of, flush,
     is_selected, prints_lines, report_end, report_flagged, searched, write_out,
@@ -73,20 +73,12 @@ fn parts_of(
         map span_pair parts.items
         ≡ parts_in (counts_begun task.entry.what.now) task.entry.crlf (found_of task.entry) (line_of task.entry.text.now line)) }
 {
+    let bytes = &task.text[line.start..line.end];
+    let size = searched(task.crlf, bytes, line.is_ended).len();
+    let begun = counts_begun(task.what);
+    let found = from_index(task.found, first);
     let mut parts = Vec::new(alloc);
-    if first < task.found.len() {
-        let bytes = &task.text[line.start..line.end];
-        let size = searched(task.crlf, bytes, line.is_ended).len();
-        let begun = counts_begun(task.what);
-        push_parts(
-            &mut parts,
-            &task.found[first..],
-            begun,
-            line.start,
-            line.end,
-            size,
-        )?;
-    }
+    push_parts(&mut parts, found, begun, line.start, line.end, size)?;
     Ok(parts)
 }
 

@@ -1,12 +1,11 @@
 //! The lines of a text, one after the other, with whether matches of the text are in them.
-ghost use Rattle.std.specs.Prelude.{◌≡◌, ◌+◌, ◌≤◌, [], IfNone, IfOk, IfSome, drop, length, map};
-ghost use Rattle.std.specs.List.{list_any};
+ghost use Rattle.std.specs.Prelude.{◌≡◌, ◌+◌, ◌≤◌, [], IfNone, IfOk, IfSome, length, map};
 ghost use Rattle.line_search.specs.LineMatchers.{span_pair};
 ghost use Rattle.text_report.specs.LineSpans.{IsLineAt, line_of, lines_from, whole_end};
-ghost use Rattle.text_report.specs.Touching.{AreBefore, AreInOrder, counts_at, has_match_of};
+ghost use Rattle.text_report.specs.Touching.{AreBefore, AreInOrder, has_match_of};
 
 use crate::lines::{LineSpan, line_at};
-use crate::touching::{first_touching, has_one};
+use crate::touching::{first_touching, from_index, has_one};
 use line_search::Fault;
 use search_types::Span;
 
@@ -41,24 +40,13 @@ pub fn first_position() -> TextPosition
     }
 }
 
-/// Whether one of the matches from this index on counts for a line.
-fn has_from(found: &[Span], first: usize, begun: bool, line: LineSpan) -> bool
-    ensures { AreInOrder (map span_pair (drop first found.now)) →
-        result ≡ list_any (counts_at begun line.start line.end) (map span_pair (drop first found.now)) }
-{
-    if first >= found.len() {
-        return false;
-    }
-    has_one(&found[first..], begun, line.start, line.end)
-}
-
 /// The next line of a text, if there is one, and whether a match counts for it. The matches of the text are in order.
 pub fn next_line(text: &[u8], found: &[Span], begun: bool, at: TextPosition) -> Option<SeenLine>
     requires { at.place ≤ length text.now }
-    ensures none { IfNone result (lines_from 10 text.now at.entry.number at.entry.place ≡ []) }
-    ensures some { IfSome result (λ seen. IsLineAt 10 text.now at.entry.number at.entry.place seen.line) }
-    ensures first { IfSome result (λ seen. AreBefore found.now at.entry.first at.entry.place → AreBefore found.now seen.first seen.line.start) }
-    ensures has { IfSome result (λ seen. AreInOrder (map span_pair found.now) → AreBefore found.now at.entry.first at.entry.place →
+    ensures none { IfNone result (lines_from 10 text.now at.number at.place ≡ []) }
+    ensures some { IfSome result (λ seen. IsLineAt 10 text.now at.number at.place seen.line) }
+    ensures first { IfSome result (λ seen. AreBefore found.now at.first at.place → AreBefore found.now seen.first seen.line.start) }
+    ensures has { IfSome result (λ seen. AreInOrder (map span_pair found.now) → AreBefore found.now at.first at.place →
         seen.has ≡ has_match_of begun (map span_pair found.now) (line_of text.now seen.line)) }
 {
     let (number, place, from) = (at.number, at.place, at.first);
@@ -66,7 +54,7 @@ pub fn next_line(text: &[u8], found: &[Span], begun: bool, at: TextPosition) -> 
         return None;
     };
     let first = first_touching(found, from, line.start);
-    let has = has_from(found, first, begun, line);
+    let has = has_one(from_index(found, first), begun, line.start, line.end);
     Some(SeenLine { line, first, has })
 }
 

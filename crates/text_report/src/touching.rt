@@ -80,6 +80,16 @@ pub fn has_one(found: &[Span], begun: bool, start: usize, end: usize) -> bool
     false
 }
 
+/// The matches from an index on.
+pub fn from_index(found: &[Span], first: usize) -> &[Span]
+    ensures { result.now ≡ drop first found.now }
+{
+    if first > found.len() {
+        return &[];
+    }
+    &found[first..]
+}
+
 /// Appends the part of a match that is in such a line, if the match counts for it.
 fn push_part(
     parts: &mut Vec<Span>,

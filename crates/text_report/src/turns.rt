@@ -1,5 +1,6 @@
 //! The roles of lines, one after the other.
 ghost use Rattle.std.specs.Prelude.{◌≡◌, ◌<◌, ◌≤◌, ◌+◌, ◌∷◌, drop, length, take, if◌then◌else◌};
+ghost use Rattle.std.specs.List.{position};
 ghost use Rattle.grep_core.specs.Report.{after_of, before_of};
 ghost use Rattle.grep_core.specs.Selecting.{any};
 ghost use Rattle.grep_core.specs.declared.role.Role.TheVariants.{Beside, Hidden};
@@ -18,13 +19,20 @@ pub(crate) struct Turn {
     pub next: usize,
 }
 
+/// The index of the first selected line.
+fn first_true(flags: &[bool]) -> Option<usize>
+    ensures { result ≡ position (λ flag. flag) flags.now }
+{
+    flags.iter().position(|flag| *flag)
+}
+
 /// The index of the first selected line from this one on, or the number of lines.
 pub(crate) fn first_selected(flags: &[bool], from: usize) -> usize
     requires { from ≤ length flags.now }
     ensures found { result ≡ from + gap (drop from flags.now) }
     ensures within { result ≤ length flags.now }
 {
-    match flags[from..].iter().position(|flag| *flag) {
+    match first_true(&flags[from..]) {
         Some(n) => from + n,
         None => flags.len(),
     }
@@ -56,7 +64,10 @@ fn role_before(what: &OutputOptions<'_>, flags: &[bool], index: usize, next: usi
     requires known { next ≡ index + 1 + gap (drop (index + 1) flags.now) }
     ensures { result ≡ (if any (take (before_of what.now.context) (drop (index + 1) flags.now)) then Beside else Hidden) }
 {
-    if next < flags.len() && ((next - index - 1) as u64) < before_of(what) {
+    if next >= flags.len() {
+        return Role::Hidden;
+    }
+    if ((next - index - 1) as u64) < before_of(what) {
         Role::Beside
     } else {
         Role::Hidden

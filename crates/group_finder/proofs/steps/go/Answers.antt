@@ -16,6 +16,10 @@ pub returns-in-Run-clause-written : goal.returns-in-Run-clause-written
 unfolding written
 returns-in-Run-clause-written c = ap (λ (s : Step). written (step_writes s c.args.at []) c.args.slots.now) (sym c.in-Run.is)
 
+pub returns-in-Character-clause-written : goal.returns-in-Character-clause-written
+unfolding written
+returns-in-Character-clause-written c = ap (λ (s : Step). written (step_writes s c.args.at []) c.args.slots.now) (sym c.in-Character.is)
+
 pub returns-in-Rest-clause-written : goal.returns-in-Rest-clause-written
 unfolding written
 returns-in-Rest-clause-written c = ap (λ (s : Step). written (step_writes s c.args.at []) c.args.slots.now) (sym c.in-Rest.is)

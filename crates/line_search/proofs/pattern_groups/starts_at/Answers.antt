@@ -1,4 +1,4 @@
-use Rattle.std.proofs.Common.{ℕ, Option, ap, sym, subst, ◌∙◌, ◌==◌, ◌≡◌}
+use Rattle.std.proofs.Common.{ℕ, Option, ap, sym, ◌∙◌, ◌==◌, ◌≡◌}
 use Rattle.regex_hir.specs.Text.{is_some_and}
 use Rattle.regex_meta.specs.Programs.{pattern_of}
 use Rattle.regex_meta.specs.declared.program.Program.{Program}

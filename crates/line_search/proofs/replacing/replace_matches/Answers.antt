@@ -1,4 +1,4 @@
-use Rattle.std.proofs.Common.{ℕ, List, Option, None, ◌≤◌, ◌≡◌, ◌+◌, ◌-◌, ◌++◌, ◌∙◌, ap, arith, length, map, option_map, refl, slice_range, subst, sym, [], ◌∷◌}
+use Rattle.std.proofs.Common.{Option, ◌≤◌, ◌+◌, ◌-◌, ◌++◌, ◌∙◌, ap, arith, length, map, option_map, refl, slice_range, subst, sym, [], ◌∷◌}
 use Rattle.regex_hir.specs.Find.{find}
 use Rattle.regex_meta.specs.Programs.{pattern_of}
 use Rattle.regex_meta.specs.declared.program.Program.{Program}
@@ -9,7 +9,7 @@ use Rattle.line_search.specs.Fallbacks.{IsProgramOf}
 use Rattle.line_search.specs.Groups.{HasGroups, comes}
 use Rattle.line_search.specs.LineMatchers.{span_pair}
 use Rattle.line_search.specs.Replacing.{all_names, written_for}
-use Rattle.line_search.proofs.AppendLemmas.{replaces_all, replaces_none, replaces_one, starts_within}
+use Rattle.line_search.proofs.AppendLemmas.{replaces_all, replaces_one, starts_within}
 use Rattle.line_search.proofs.ReplaceLemmas.{no_match, none_comes, none_may}
 use Rattle.line_search.proofs.replacing.replace_matches.Goals as goal
 

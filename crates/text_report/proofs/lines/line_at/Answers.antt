@@ -1,6 +1,5 @@
-use Rattle.std.proofs.Common.{◌≡◌, ◌==◌, ◌-◌, ◌∙◌, ℕ, List, None, Some, length, take, drop, sym}
+use Rattle.std.proofs.Common.{◌-◌, ◌∙◌, ℕ, List, length, take, drop, sym}
 use Rattle.std.proofs.lemmas.List.{take_rest}
-use Rattle.std.specs.List.{position}
 use Rattle.text_report.proofs.LineLemmas.{ended_line, open_line, some_bytes}
 use Rattle.text_report.proofs.lines.line_at.Goals as goal
 

@@ -1,4 +1,3 @@
-use Rattle.std.proofs.Common.{Some}
 use Rattle.line_search.proofs.OwnLemmas.{own_resized}
 use Rattle.line_search.proofs.finder.Finder.enlarge_searcher.Goals as goal
 

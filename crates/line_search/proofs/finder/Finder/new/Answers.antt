@@ -1,4 +1,4 @@
-use Rattle.std.proofs.Common.{◌∷◌, [], None, inr, refl}
+use Rattle.std.proofs.Common.{None, inr, refl}
 use Rattle.line_search.specs.Replacing.{all_names}
 use Rattle.line_search.proofs.BoundedTreeLemmas.{read_as}
 use Rattle.line_search.proofs.finder.Finder.new.Goals as goal

@@ -1,5 +1,4 @@
-use Rattle.std.proofs.Common.{◌≡◌, ◌∙◌, ap, subst}
-use Rattle.regex_syntax.specs.declared.Config.{Config}
+use Rattle.std.proofs.Common.{◌≡◌, ◌∙◌, ap}
 use Rattle.hirscan.specs.Loops.{first_empty_loop}
 use Rattle.pattern_search.specs.Texts.{AllMean}
 use Rattle.pattern_search.proofs.ForCallers.{read_texts}
@@ -9,8 +8,7 @@ use Rattle.line_search.proofs.parsed_patterns.ParsedPatterns.new.Goals as goal
 
 pub invariant_of-result-2 : goal.invariant_of-result-2
 invariant_of-result-2 c =
-    let mean : AllMean (line_config c.args.how.now) (read_texts c.args.texts.now) c.in-Ok.parsed.items =
-    subst (λ (k : Config). AllMean k (read_texts c.args.texts.now) c.in-Ok.parsed.items) c.config_of.ensures c.in-Ok.ensures.means in
+    let mean : AllMean (line_config c.args.how.now) (read_texts c.args.texts.now) c.in-Ok.parsed.items = c.in-Ok.ensures.means in
     let is : c.first_empty_loop-empty_loop.result ≡ first_empty_loop c.in-Ok.parsed.items =
     c.first_empty_loop-empty_loop.ensures ∙ ap first_empty_loop c.deref.ensures.value in (
       tree_known c.args.how.now (read_texts c.args.texts.now) c.in-Ok.parsed.items c.first_empty_loop-empty_loop.result

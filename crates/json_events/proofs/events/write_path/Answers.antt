@@ -1,0 +1,5 @@
+use Rattle.std.proofs.Common.{append_assoc}
+use Rattle.json_events.proofs.events.write_path.Goals as goal
+
+pub returns-clause-tokens : goal.returns-clause-tokens
+returns-clause-tokens c = simp (c.in_ok-write_data.ensures.tokens, c.in_ok-key.ensures.ok, append_assoc)

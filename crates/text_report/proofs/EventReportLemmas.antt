@@ -1,0 +1,155 @@
+-- The events of a text and its statistics.
+use Rattle.std.proofs.Common.{◌≡◌, ◌≤◌, ◌<◌, ℕ, zero, suc, ◌+◌, ◌-◌, Bool, true, false, List, [], ◌∷◌, ◌++◌, length, map, take, drop, slice_range, Option, Some, None}
+use Rattle.std.proofs.Common.{nat_lt, if◌then◌else◌, refl, sym, ap, ap₂, ◌∙◌, subst, arith, drop_of_length-le, length-drop, length-take-le}
+use Rattle.std.proofs.Math.Seq.{take-length}
+use Rattle.std.proofs.KnownBytes.{Appends-nil}
+use Rattle.std.proofs.lemmas.Bool.{lt-ltb}
+use Rattle.std.specs.Io.KnownBytes.{Appends, Keeps}
+use Rattle.json_events.specs.Events.{as_line, begin_event, end_event, lines_event}
+use Rattle.json_events.specs.declared.elapsed.Elapsed.{Elapsed}
+use Rattle.json_events.specs.declared.events.Kind.TheVariants.{Context, Match}
+use Rattle.json_events.specs.declared.stats.Stats.{Stats}
+use Rattle.line_search.specs.LineMatchers.{LineMatcher, span_pair}
+use Rattle.line_search.specs.Lines.{TextLine}
+use Rattle.grep_core.proofs.ForCallers.{appends_kept}
+use Rattle.grep_core.specs.Report.{after_of, before_of, first_of, roles_of, selected}
+use Rattle.grep_core.specs.Selecting.{roles_from}
+use Rattle.grep_core.specs.declared.output_options.OutputOptions.{OutputOptions}
+use Rattle.grep_core.specs.declared.role.Role.{Role}
+use Rattle.grep_core.specs.declared.role.Role.TheVariants.{Beside, Hidden, Selected}
+use Rattle.text_report.specs.EventCourse.{IsEventItem, line_items}
+use Rattle.text_report.specs.Events.{EventItem, Printed, tally, ended_events, event_of, full_stats, line_item, line_past, no_stats, printed, printed_lines, shown_found, stats_of, with_event, with_events}
+use Rattle.text_report.specs.LineSpans.{line_of, lines_from, whole_end}
+use Rattle.text_report.specs.Records.{records_of}
+use Rattle.text_report.specs.declared.events.Counts.{Counts}
+use Rattle.text_report.specs.declared.events.Item.{Item}
+use Rattle.text_report.specs.declared.lines.LineSpan.{LineSpan}
+use Rattle.text_report.proofs.EventLemmas.{event_is, no_items}
+use Rattle.text_report.proofs.LineLemmas.{none_from}
+
+-- ---- one item
+module _ (w : OutputOptions) (name : List ℕ) (it : EventItem) (item : Item) (c : Counts) (old new : List ℕ) (end : ℕ) where
+  ends_at : (role : Role) → IsEventItem w role item it → end ≡ item.place + length item.bytes.now → end ≡ it.place + length it.bytes
+  ends_at role is e = e ∙ ap₂ (λ p bs. p + length bs) is.place is.bytes
+
+  pub context_item : IsEventItem w Beside item it →
+      new ≡ old ++ as_line (lines_event name Context (if w.numbers then Some item.number else None) item.place item.bytes.now
+      (map span_pair item.found.now)) → end ≡ item.place + length item.bytes.now →
+      printed new (tally c.lines c.matches end) ≡ with_event w name Beside it (printed old c)
+  context_item is e ends =
+      ap₂ (λ bs n. printed bs (tally c.lines c.matches n))
+      (e ∙ ap (λ bs. old ++ bs) (event_is w name Beside it item.number item.place item.bytes.now (map span_pair item.found.now) is.number
+      is.place is.bytes is.found))
+      (ends_at Beside is ends)
+
+  pub selected_item : (lines matches : ℕ) → IsEventItem w Selected item it →
+      new ≡ old ++ as_line (lines_event name Match (if w.numbers then Some item.number else None) item.place item.bytes.now
+      (map span_pair item.found.now)) → end ≡ item.place + length item.bytes.now → lines ≡ c.lines + item.lines →
+      matches ≡ c.matches + length (map span_pair item.found.now) →
+      printed new (tally lines matches end) ≡ with_event w name Selected it (printed old c)
+  selected_item lines matches is e ends more found =
+      ap₂ (λ bs n. printed bs (tally lines matches n))
+      (e ∙ ap (λ bs. old ++ bs) (event_is w name Selected it item.number item.place item.bytes.now (map span_pair item.found.now) is.number
+      is.place is.bytes is.found))
+      (ends_at Selected is ends)
+      ∙ ap₂ (λ n m. printed (old ++ event_of w name Selected it) (tally n m (it.place + length it.bytes)))
+      (more ∙ ap (λ n. c.lines + n) is.lines) (found ∙ ap (λ fs. c.matches + length fs) is.found)
+
+-- ---- one line
+past_by : (b : Bool) (s n e : ℕ) → s + n ≡ e → s + n + (if b then 1 else 0) ≡ (if b then e + 1 else e)
+past_by true s n e is = ap (λ k. k + 1) is
+past_by false s n e is = omega (arith, is)
+
+pub past_is : (text : List ℕ) (line : LineSpan) → line.start ≤ line.end → line.end ≤ length text →
+    line_past (line_of text line) ≡ whole_end line
+past_is text line ordered inside =
+    past_by line.is_ended line.start (length (slice_range text line.start line.end)) line.end
+    (let size : length (slice_range text line.start line.end) ≡ line.end - line.start =
+    length-take-le (line.end - line.start) (drop line.start text) (omega (arith, length-drop line.start text, inside)) in
+    omega (arith, size, ordered))
+
+pub line_is_item : (w : OutputOptions) (f : LineMatcher) (role : Role) (text : List ℕ) (line : LineSpan) (item : Item) →
+    line.start ≤ line.end → line.end ≤ length text → item.number ≡ line.number → item.place ≡ line.start →
+    item.bytes.now ≡ slice_range text line.start (whole_end line) →
+    map span_pair item.found.now ≡ shown_found w role (f.spans (line_of text line).content) → item.lines ≡ 1 →
+    IsEventItem w role item (line_item f text (line_of text line))
+line_is_item w f role text line item ordered inside number place bytes found lines = record {
+  number = number;
+  place = place;
+  bytes = bytes ∙ ap (slice_range text line.start) (sym (past_is text line ordered inside));
+  found = found;
+  lines = lines;
+}
+
+pub one_line : (w : OutputOptions) (name : List ℕ) (f : LineMatcher) (text : List ℕ) (rs0 rs : List Role) (role : Role) (n m at next : ℕ)
+    (line : LineSpan) (p q : Printed) → rs0 ≡ role ∷ rs →
+    lines_from w.terminator text n at ≡ line_of text line ∷ lines_from w.terminator text (n + 1) next → m ≡ n + 1 →
+    q ≡ with_event w name role (line_item f text (line_of text line)) p →
+    with_events w name rs0 (line_items w f text n at) p ≡ with_events w name rs (line_items w f text m next) q
+one_line w name f text rs0 rs role n m at next line p q first lines on is =
+    ap₂ (λ r ls. with_events w name r (map (line_item f text) ls) p) first lines
+    ∙ ap₂ (λ k it. with_events w name rs (line_items w f text k next) it) (sym on) (sym is)
+
+-- after the last line
+pub all_lines : (w : OutputOptions) (name : List ℕ) (f : LineMatcher) (text : List ℕ) (rs : List Role) (n at : ℕ) (p q : Printed) →
+    length text ≤ at → with_events w name rs (line_items w f text n at) p ≡ q → p ≡ q
+all_lines w name f text rs n at p q past kept =
+    sym (no_items w name rs (line_items w f text n at) p
+    (ap (map (line_item f text)) (none_from w.terminator text n at (drop_of_length-le text past))))
+    ∙ kept
+
+-- before the first line
+pub first_line_of : (w : OutputOptions) (name : List ℕ) (items : List EventItem) (flags : List Bool) (left : ℕ) (p : Printed) →
+    left ≡ first_of w.context →
+    with_events w name (roles_from (before_of w.context) (after_of w.context) left flags) items p
+    ≡ with_events w name (roles_of w flags) items p
+first_line_of w name items flags left p e =
+    ap (λ n. with_events w name (roles_from (before_of w.context) (after_of w.context) n flags) items p) e
+
+pub begun_lines : (w : OutputOptions) (f : LineMatcher) (name text : List ℕ) (flags : List Bool) (none out : List ℕ) (p : Printed) →
+    none ≡ [] → out ≡ none ++ as_line (begin_event name) → flags ≡ selected w f (records_of w text) →
+    p ≡ with_events w name (roles_of w flags) (line_items w f text 1 0) (printed out (tally 0 0 0)) →
+    p ≡ printed_lines w f name text
+begun_lines w f name text flags none out p empty begun are is =
+    is
+    ∙ ap₂ (λ fs bs. with_events w name (roles_of w fs) (line_items w f text 1 0) (printed bs (tally 0 0 0))) are
+    (begun ∙ ap (λ bs. bs ++ as_line (begin_event name)) empty)
+
+-- ---- the end of a text
+module _ (w : OutputOptions) (name : List ℕ) (time : Elapsed) (size : ℕ) (out : List ℕ) (c : Counts) (p : Printed) (is : printed out c ≡ p) where
+  none_printed : c.end ≡ 0 → nat_lt 0 p.counts.end ≡ false
+  none_printed none = ap (λ (q : Printed). nat_lt 0 q.counts.end) (sym is) ∙ ap (nat_lt 0) none
+
+  some_printed : 0 < c.end → nat_lt 0 p.counts.end ≡ true
+  some_printed some = ap (λ (q : Printed). nat_lt 0 q.counts.end) (sym is) ∙ lt-ltb 0 c.end some
+
+  pub none_ended : c.end ≡ 0 → [] ≡ ended_events w name time size p
+  none_ended none =
+      sym (ap (λ b. if b then p.bytes ++ as_line (end_event name (full_stats w time size p)) else []) (none_printed none))
+
+  pub none_counted : c.end ≡ 0 → no_stats ≡ stats_of w time size p
+  none_counted none = sym (ap (λ b. if b then full_stats w time size p else no_stats) (none_printed none))
+
+  pub some_counted : (s : Stats) → 0 < c.end → s ≡ full_stats w time size (printed out c) → s ≡ stats_of w time size p
+  some_counted s some e =
+      e ∙ ap (full_stats w time size) is
+      ∙ sym (ap (λ b. if b then full_stats w time size p else no_stats) (some_printed some))
+
+  pub some_ended : (s : Stats) (new : List ℕ) → 0 < c.end → s ≡ full_stats w time size (printed out c) →
+      new ≡ out ++ as_line (end_event name s) → new ≡ ended_events w name time size p
+  some_ended s new some e pushed =
+      pushed
+      ∙ ap (λ t. out ++ as_line (end_event name t)) e
+      ∙ ap (λ (q : Printed). q.bytes ++ as_line (end_event name (full_stats w time size q))) is
+      ∙ sym (ap (λ b. if b then p.bytes ++ as_line (end_event name (full_stats w time size p)) else []) (some_printed some))
+
+-- ---- what is written
+pub whole_part : (a b c : Option (List ℕ)) (out : List ℕ) → Appends a b out → Keeps b c → (n : ℕ) × Appends a c (take n out)
+whole_part a b c out written kept = (length out, subst (Appends a c) (sym (take-length out)) (appends_kept a b c out written kept))
+
+pub none_written : (a : Option (List ℕ)) (out : List ℕ) → (n : ℕ) × Appends a a (take n out)
+none_written a out = (0, Appends-nil a)
+
+pub part_of : (a b : Option (List ℕ)) (out whole : List ℕ) → out ≡ whole → (n : ℕ) × Appends a b (take n out) →
+    (n : ℕ) × Appends a b (take n whole)
+part_of a b out whole e part = (part.0, subst (λ bs. Appends a b (take part.0 bs)) e part.1)
