@@ -6,7 +6,7 @@ ghost use Rattle.hirgrep_main.specs.Readings.{lists_matches, prints_summary};
 
 use crate::asked::{Asked, Devices, Names};
 use crate::binary::prints_lines;
-use crate::reading::{Reading, lists_all};
+use crate::reading::{lists_all, prints_json};
 use grep_core::{OutputOptions, Print, needs_spans};
 
 fn prints_names_if_none(print: Print) -> bool
@@ -96,5 +96,5 @@ pub fn lists_matches(asked: &Asked) -> bool
 pub fn prints_summary(asked: &Asked) -> bool
     ensures { result ≡ prints_summary asked.now }
 {
-    asked.reading == Reading::Events && prints_lines(asked.what.print)
+    prints_json(asked.reading) && prints_lines(asked.what.print)
 }

@@ -1,7 +1,7 @@
 //! How inputs are read: line by line, or as a whole.
 ghost use Rattle.std.specs.Prelude.{◌≡◌, ◌≤◌, IfOk, IfSome, length};
 ghost use Rattle.clap.specs.Words.{found_of};
-ghost use Rattle.hirgrep_main.specs.Readings.{dot_matches_feeds, is_by_lines, lists_all, most_given, reading_given};
+ghost use Rattle.hirgrep_main.specs.Readings.{dot_matches_feeds, is_by_lines, lists_all, most_given, prints_json, reading_given};
 
 use clap::ArgMatches;
 use grep_options::{is_set, size_of};
@@ -67,6 +67,16 @@ pub fn lists_all(reading: Reading) -> bool
     match reading {
         Reading::Lines | Reading::Records => false,
         Reading::Text | Reading::Events => true,
+    }
+}
+
+/// Whether the lines of an input are printed as JSON.
+pub fn prints_json(reading: Reading) -> bool
+    ensures { result ≡ prints_json reading }
+{
+    match reading {
+        Reading::Events => true,
+        Reading::Lines | Reading::Records | Reading::Text => false,
     }
 }
 

@@ -32,11 +32,13 @@ fn report_json<W: Write>(
     totals: &mut Stats,
 ) -> Result<u64, Fault>
     ensures same { finder.new ≡ finder.old }
-    ensures written { OnOk result ((by : SearchesFor finder.old true) → Appends (W.contents writer.old) (W.contents writer.new)
+    ensures written { OnOk result ((by : SearchesFor finder.old true) →
+        Appends (W.contents writer.old) (W.contents writer.new)
         (json_report what.now (found_by by) name.now no_time text.now)) }
     ensures counted { IfOk result (λ n. (by : SearchesFor finder.old true) →
         n ≡ (json_stats what.now (found_by by) name.now no_time text.now).matched_lines) }
-    ensures part { IfErr result (λ _. (by : SearchesFor finder.old true) → (n : ℕ) × Appends (W.contents writer.old) (W.contents writer.new)
+    ensures part { IfErr result (λ _. (by : SearchesFor finder.old true) →
+        (n : ℕ) × Appends (W.contents writer.old) (W.contents writer.new)
         (take n (json_report what.now (found_by by) name.now no_time text.now))) }
     ensures sum { IfOk result (λ _. (by : SearchesFor finder.old true) →
         totals.new ≡ summed totals.old (json_stats what.now (found_by by) name.now no_time text.now)) }
@@ -63,11 +65,13 @@ fn report_body<W: Write>(
     totals: &mut Stats,
 ) -> Result<u64, Fault>
     ensures same { finder.new ≡ finder.old }
-    ensures written { OnOk result ((by : SearchesFor finder.old (lists_in reading what.now)) → Appends (W.contents writer.old) (W.contents writer.new)
+    ensures written { OnOk result ((by : SearchesFor finder.old (lists_in reading what.now)) →
+        Appends (W.contents writer.old) (W.contents writer.new)
         (body reading what.now (patterns_by by) name.now with_name known text.now)) }
     ensures counted { IfOk result (λ n. (by : SearchesFor finder.old (lists_in reading what.now)) →
         n ≡ body_count reading what.now (patterns_by by) name.now text.now) }
-    ensures part { IfErr result (λ _. (by : SearchesFor finder.old (lists_in reading what.now)) → (n : ℕ) × Appends (W.contents writer.old) (W.contents writer.new)
+    ensures part { IfErr result (λ _. (by : SearchesFor finder.old (lists_in reading what.now)) →
+        (n : ℕ) × Appends (W.contents writer.old) (W.contents writer.new)
         (take n (body reading what.now (patterns_by by) name.now with_name known text.now))) }
 {
     match reading {
@@ -124,12 +128,14 @@ fn report_below<W: Write>(
     totals: &mut Stats,
 ) -> Result<u64, Fault>
     ensures same { finder.new ≡ finder.old }
-    ensures written { OnOk result ((by : SearchesFor finder.old (lists_in task.entry.asked.now.reading what.now)) → Appends (W.contents writer.old) (W.contents writer.new)
+    ensures written { OnOk result ((by : SearchesFor finder.old (lists_in task.entry.asked.now.reading what.now)) →
+        Appends (W.contents writer.old) (W.contents writer.new)
         (under (heading what.now name.now task.entry.with_name printed)
         (body task.entry.asked.now.reading what.now (patterns_by by) name.now false SeparatorState.NonePrinted text.now))) }
     ensures counted { IfOk result (λ n. (by : SearchesFor finder.old (lists_in task.entry.asked.now.reading what.now)) →
         n ≡ body_count task.entry.asked.now.reading what.now (patterns_by by) name.now text.now) }
-    ensures part { IfErr result (λ _. (by : SearchesFor finder.old (lists_in task.entry.asked.now.reading what.now)) → (n : ℕ) × Appends (W.contents writer.old) (W.contents writer.new)
+    ensures part { IfErr result (λ _. (by : SearchesFor finder.old (lists_in task.entry.asked.now.reading what.now)) →
+        (n : ℕ) × Appends (W.contents writer.old) (W.contents writer.new)
         (take n (heading what.now name.now task.entry.with_name printed
         ++ body task.entry.asked.now.reading what.now (patterns_by by) name.now false SeparatorState.NonePrinted text.now))) }
 {
