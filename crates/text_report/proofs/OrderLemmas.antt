@@ -9,7 +9,7 @@ use Rattle.pattern_search.specs.Searches.{span_of_match}
 use Rattle.line_search.specs.Bounded.{line_pattern}
 use Rattle.line_search.specs.Patterns.{spans_in}
 use Rattle.line_search.specs.declared.patterns.PatternOptions.{PatternOptions}
-use Rattle.text_report.specs.Touching.{AreInOrder, NoneStartsBefore}
+use Rattle.text_report.specs.Touching.{StartInOrder, NoneStartsBefore}
 use Rattle.text_report.proofs.TouchingLemmas.{weaker}
 
 module _ (re : Re) (hay : List ℕ) where
@@ -28,7 +28,7 @@ module _ (re : Re) (hay : List ℕ) where
   abbrev spans : ℕ → Option Match → List (ℕ × ℕ)
   spans n o = map span_of_match (matches_from (find re hay) n o)
 
-  in_order_from : (n low : ℕ) (o : Option Match) → Starts low o → NoneStartsBefore low (spans n o) × AreInOrder (spans n o)
+  in_order_from : (n low : ℕ) (o : Option Match) → Starts low o → NoneStartsBefore low (spans n o) × StartInOrder (spans n o)
   unfolding matches_from
   in_order_from zero low o starts = (tt, tt)
   in_order_from (suc n) low None starts = (tt, tt)
@@ -40,7 +40,7 @@ module _ (re : Re) (hay : List ℕ) where
         (weaker m.start m.trace.end _ own.1 rest.0, rest.1),
       )
 
-pub in_order : (how : PatternOptions) (res : List Re) (text : List ℕ) → AreInOrder (spans_in how res text)
+pub in_order : (how : PatternOptions) (res : List Re) (text : List ℕ) → StartInOrder (spans_in how res text)
 in_order how res text =
     (in_order_from (line_pattern how res) text (length text + 1) 0 (find (line_pattern how res) text 0)
     (found_starts (line_pattern how res) text 0)).1

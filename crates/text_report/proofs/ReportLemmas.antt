@@ -18,8 +18,8 @@ use Rattle.grep_core.specs.declared.output_options.Print.TheVariants.{Lines, Mat
 use Rattle.grep_core.specs.declared.separator_state.SeparatorState.{SeparatorState}
 use Rattle.text_report.proofs.SeenLemmas.{still_before}
 use Rattle.text_report.specs.LineSpans.{IsLineAt, line_of, lines_from, split_at, whole_end}
-use Rattle.text_report.specs.TextProgress.{ReportsLines, WritesLines, WritesPrefix, count_left, flags_left, found_of, lines_left, reported_left}
-use Rattle.text_report.specs.TextReports.{is_wanted_in, item_of, report_items}
+use Rattle.text_report.specs.TextProgress.{ReportsLines, WritesTextLines, WritesPrefix, count_left, flags_left, matches_of_task, lines_left, reported_left}
+use Rattle.text_report.specs.TextReports.{is_wanted_in, text_item, report_items}
 use Rattle.text_report.specs.Touching.{AreBefore}
 use Rattle.text_report.specs.declared.lines.LineSpan.{LineSpan}
 use Rattle.text_report.specs.declared.reporting.TextProgress.{TextProgress}
@@ -78,11 +78,11 @@ module _ (t : TextTask) where
       }
 
   -- ---- what was written
-  pub writes_none : (p : TextProgress) (w : Option (List ℕ)) → AreBefore t.found.now p.at.first p.at.place → WritesLines t p p w w
+  pub writes_none : (p : TextProgress) (w : Option (List ℕ)) → AreBefore t.found.now p.at.first p.at.place → WritesTextLines t p p w w
   writes_none p w before = record { reported = []; written = Appends-nil w; printed = refl; counted = refl; are_before = before }
 
   pub writes_out : (o p : TextProgress) (empty out all : List ℕ) (w v : Option (List ℕ)) → empty ≡ [] → all ≡ out →
-      ReportsLines t o p empty out → Appends w v all → WritesLines t o p w v
+      ReportsLines t o p empty out → Appends w v all → WritesTextLines t o p w v
   writes_out o p empty out all w v none same r written = record {
     reported = out;
     written = subst (Appends w v) same written;
@@ -103,7 +103,7 @@ module _ (t : TextTask) where
   pub no_part : (p : TextProgress) (w : Option (List ℕ)) → WritesPrefix t p w w
   no_part p w = (0, Appends-nil w)
 
-  pub then_writes : (o p q : TextProgress) (u w v : Option (List ℕ)) → WritesLines t o p u w → WritesLines t p q w v → WritesLines t o q u v
+  pub then_writes : (o p q : TextProgress) (u w v : Option (List ℕ)) → WritesTextLines t o p u w → WritesTextLines t p q w v → WritesTextLines t o q u v
   then_writes o p q u w v a b = record {
     reported = a.reported ++ b.reported;
     written = Appends-trans u w v a.reported b.reported a.written b.written;
@@ -112,24 +112,24 @@ module _ (t : TextTask) where
     are_before = b.are_before;
   }
 
-  pub then_part : (o p : TextProgress) (u w v : Option (List ℕ)) → WritesLines t o p u w → WritesPrefix t p w v → WritesPrefix t o u v
+  pub then_part : (o p : TextProgress) (u w v : Option (List ℕ)) → WritesTextLines t o p u w → WritesPrefix t p w v → WritesPrefix t o u v
   then_part o p u w v a part = (
     length a.reported + part.0,
     subst (Appends u v) (sym (take-append-add a.reported (lasts p) part.0) ∙ ap (take (length a.reported + part.0)) (sym a.printed))
         (Appends-trans u w v a.reported (take part.0 (lasts p)) a.written part.1),
   )
 
-  pub writes_part : (o p : TextProgress) (u w : Option (List ℕ)) → WritesLines t o p u w → WritesPrefix t o u w
+  pub writes_part : (o p : TextProgress) (u w : Option (List ℕ)) → WritesTextLines t o p u w → WritesPrefix t o u w
   writes_part o p u w a = then_part o p u w w a (no_part p w)
 
   -- ---- after the last line
-  pub ends_written : (o p : TextProgress) (u w v : Option (List ℕ)) → WritesLines t o p u w → lines_left t p ≡ [] →
+  pub ends_written : (o p : TextProgress) (u w v : Option (List ℕ)) → WritesTextLines t o p u w → lines_left t p ≡ [] →
       Appends w v (reported_left t p.telling []) → Appends u v (lasts o)
   ends_written o p u w v a none last =
       subst (Appends u v) (sym (a.printed ∙ ap (λ lines. a.reported ++ reported_left t p.telling lines) none))
       (Appends-trans u w v a.reported (reported_left t p.telling []) a.written last)
 
-  pub ends_part : (o p : TextProgress) (u w v : Option (List ℕ)) → WritesLines t o p u w → lines_left t p ≡ [] →
+  pub ends_part : (o p : TextProgress) (u w v : Option (List ℕ)) → WritesTextLines t o p u w → lines_left t p ≡ [] →
       (n : ℕ) × Appends w v (take n (reported_left t p.telling [])) → WritesPrefix t o u v
   ends_part o p u w v a none part =
       then_part o p u w v a (part.0, subst (λ lines. Appends w v (take part.0 (reported_left t p.telling lines))) (sym none) part.1)
@@ -139,7 +139,7 @@ module _ (t : TextTask) where
   none_limited (Some zero) = refl
   none_limited (Some (suc n)) = refl
 
-  pub counted_all : (o p : TextProgress) (u w : Option (List ℕ)) → WritesLines t o p u w → lines_left t p ≡ [] →
+  pub counted_all : (o p : TextProgress) (u w : Option (List ℕ)) → WritesTextLines t o p u w → lines_left t p ≡ [] →
       p.telling.count ≡ count_left t o.telling (lines_left t o)
   counted_all o p u w a none =
       let zeroth : p.telling.count + 0 ≡ p.telling.count = omega arith in
@@ -198,27 +198,27 @@ module _ (t : TextTask) (known : SeparatorState) (p : TextProgress) (first : p.a
   lines_there = ap₂ (λ n k. lines_from 10 t.text.now n k) first start ∙ all_lines t.text.now
 
   flags_there : (lines : List TextLine) → flags_left t p.telling.count lines
-      ≡ limited t.what.now.most (map (is_wanted_in t.what.now (found_of t)) lines)
+      ≡ limited t.what.now.most (map (is_wanted_in t.what.now (matches_of_task t)) lines)
   flags_there lines =
-      ap (λ most. limited most (map (is_wanted_in t.what.now (found_of t)) lines))
+      ap (λ most. limited most (map (is_wanted_in t.what.now (matches_of_task t)) lines))
       (ap (left_of t.what.now.most) none ∙ left_none t.what.now.most)
 
   pub starts_text : reported_left t p.telling (lines_left t p)
       ≡ report_items t.what.now.print t.what.now t.name.now t.with_name known
-      (limited t.what.now.most (map (is_wanted_in t.what.now (found_of t)) (text_lines t.text.now)))
-      (map (item_of t.what.now t.crlf (found_of t)) (text_lines t.text.now))
+      (limited t.what.now.most (map (is_wanted_in t.what.now (matches_of_task t)) (text_lines t.text.now)))
+      (map (text_item t.what.now t.crlf (matches_of_task t)) (text_lines t.text.now))
   starts_text =
       ap (reported_left t p.telling) lines_there
       ∙ ap₂ (λ n flags. reported_lines t.what.now.print t.what.now t.name.now t.with_name p.telling.course n flags
-      (map (item_of t.what.now t.crlf (found_of t)) (text_lines t.text.now)))
+      (map (text_item t.what.now t.crlf (matches_of_task t)) (text_lines t.text.now)))
       (none_yet (counts_matches t.what.now.print) p.telling.matches p.telling.count none_matched none) (flags_there (text_lines t.text.now))
       ∙ all_items t.what.now t.name.now t.with_name known p.telling.course prints
-      (limited t.what.now.most (map (is_wanted_in t.what.now (found_of t)) (text_lines t.text.now)))
-      (map (item_of t.what.now t.crlf (found_of t)) (text_lines t.text.now)) t.what.now.print
+      (limited t.what.now.most (map (is_wanted_in t.what.now (matches_of_task t)) (text_lines t.text.now)))
+      (map (text_item t.what.now t.crlf (matches_of_task t)) (text_lines t.text.now)) t.what.now.print
 
   pub starts_count : count_left t p.telling (lines_left t p)
-      ≡ count_selected (limited t.what.now.most (map (is_wanted_in t.what.now (found_of t)) (text_lines t.text.now)))
+      ≡ count_selected (limited t.what.now.most (map (is_wanted_in t.what.now (matches_of_task t)) (text_lines t.text.now)))
   starts_count =
       ap (count_left t p.telling) lines_there
       ∙ ap₂ (λ n flags. n + count_selected flags) none (flags_there (text_lines t.text.now))
-      ∙ none_before (count_selected (limited t.what.now.most (map (is_wanted_in t.what.now (found_of t)) (text_lines t.text.now))))
+      ∙ none_before (count_selected (limited t.what.now.most (map (is_wanted_in t.what.now (matches_of_task t)) (text_lines t.text.now))))

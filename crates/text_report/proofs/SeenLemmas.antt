@@ -7,7 +7,7 @@ use Rattle.line_search.specs.LineMatchers.{span_pair}
 use Rattle.line_search.specs.Lines.{searched}
 use Rattle.text_report.proofs.TouchingLemmas.{same_any}
 use Rattle.text_report.specs.LineSpans.{content_of, line_of}
-use Rattle.text_report.specs.Touching.{AreBefore, counts_at, counts_for, has_match_of, line_end, part_at, parts_in}
+use Rattle.text_report.specs.Touching.{AreBefore, counts_at, counts_for, has_match_of, content_end, part_at, parts_in}
 use Rattle.text_report.specs.declared.lines.LineSpan.{LineSpan}
 
 -- ---- a line of a text
@@ -15,7 +15,7 @@ module _ (text : List ℕ) (line : LineSpan) (ordered : line.start ≤ line.end)
   size : length (slice_range text line.start line.end) ≡ line.end - line.start
   size = length-take-le (line.end - line.start) (drop line.start text) (omega (arith, length-drop line.start text, inside))
 
-  pub ends_there : line_end (line_of text line) ≡ line.end
+  pub ends_there : content_end (line_of text line) ≡ line.end
   ends_there = omega (arith, size, ordered)
 
   module _ (found : List Span) (first : ℕ) (before : AreBefore found first line.start) (begun : Bool) where

@@ -5,7 +5,7 @@ use Rattle.std.proofs.Math.Seq.{drop-cons}
 use Rattle.std.specs.List.{filter, list_any}
 use Rattle.search_types.specs.declared.span.Span.{Span}
 use Rattle.line_search.specs.LineMatchers.{span_pair}
-use Rattle.text_report.specs.Touching.{AreInOrder, NoneStartsBefore, begins_at, counts_at, part_at, touches_at}
+use Rattle.text_report.specs.Touching.{StartInOrder, NoneStartsBefore, begins_between, counts_at, part_at, touches_at}
 
 le_false : (a b : ℕ) → b < a → nat_le a b ≡ false
 le_false a b less = grind (arith, less)
@@ -18,13 +18,13 @@ and_false true t e = e
 and_false false t e = refl
 
 -- ---- a match before a line, and one after it
-begins_not : (place start end : ℕ) (s : ℕ × ℕ) → s.0 < place → place ≤ start → begins_at start end s ≡ false
+begins_not : (place start end : ℕ) (s : ℕ × ℕ) → s.0 < place → place ≤ start → begins_between start end s ≡ false
 begins_not place start end s less low = ap (λ b. b && nat_le s.0 end) (le_false start s.0 (omega (arith, less, low)))
 
 touches_not : (place start end : ℕ) (s : ℕ × ℕ) → s.0 < place → s.1 ≤ place → place ≤ start → touches_at start end s ≡ false
 touches_not place start end s less few low = by (nat_lt s.0 s.1)
   where
-    by : (b : Bool) → (if b then nat_le s.0 end && nat_lt start s.1 else begins_at start end s) ≡ false
+    by : (b : Bool) → (if b then nat_le s.0 end && nat_lt start s.1 else begins_between start end s) ≡ false
     by true = and_false (nat_le s.0 end) (nat_lt start s.1) (lt_false start s.1 (omega (arith, few, low)))
     by false = begins_not place start end s less low
 
@@ -33,13 +33,13 @@ pub counts_not : (begun : Bool) (place start end : ℕ) (s : ℕ × ℕ) → s.0
 counts_not true place start end s less few low = begins_not place start end s less low
 counts_not false place start end s less few low = touches_not place start end s less few low
 
-begins_after : (start end : ℕ) (s : ℕ × ℕ) → end < s.0 → begins_at start end s ≡ false
+begins_after : (start end : ℕ) (s : ℕ × ℕ) → end < s.0 → begins_between start end s ≡ false
 begins_after start end s less = and_false (nat_le start s.0) (nat_le s.0 end) (le_false s.0 end less)
 
 touches_after : (start end : ℕ) (s : ℕ × ℕ) → end < s.0 → touches_at start end s ≡ false
 touches_after start end s less = by (nat_lt s.0 s.1)
   where
-    by : (b : Bool) → (if b then nat_le s.0 end && nat_lt start s.1 else begins_at start end s) ≡ false
+    by : (b : Bool) → (if b then nat_le s.0 end && nat_lt start s.1 else begins_between start end s) ≡ false
     by true = ap (λ b. b && nat_lt start s.1) (le_false s.0 end less)
     by false = begins_after start end s less
 
@@ -78,7 +78,7 @@ pub weaker : (a b : ℕ) (found : List (ℕ × ℕ)) → a ≤ b → NoneStartsB
 weaker a b [] low all = tt
 weaker a b (s ∷ found) low all = (omega (arith, low, all.0), weaker a b found low all.1)
 
-pub ordered_from : (n : ℕ) (found : List Span) → AreInOrder (map span_pair found) → AreInOrder (map span_pair (drop n found))
+pub ordered_from : (n : ℕ) (found : List Span) → StartInOrder (map span_pair found) → StartInOrder (map span_pair (drop n found))
 ordered_from zero found order = order
 ordered_from (suc n) [] order = tt
 ordered_from (suc n) (s ∷ found) order = ordered_from n found order.1
@@ -99,11 +99,11 @@ module _ (begun : Bool) (start end : ℕ) where
   none_left low (s ∷ found) less all =
       filter_one p s found false (counts_after begun start end s (omega (arith, less, all.0))) ∙ none_left low found less all.1
 
-  pub none_after : (s : ℕ × ℕ) (found : List (ℕ × ℕ)) → end < s.0 → AreInOrder (s ∷ found) → filter p (s ∷ found) ≡ []
+  pub none_after : (s : ℕ × ℕ) (found : List (ℕ × ℕ)) → end < s.0 → StartInOrder (s ∷ found) → filter p (s ∷ found) ≡ []
   none_after s found less order =
       filter_one p s found false (counts_after begun start end s less) ∙ none_left s.0 found less order.0
 
-  pub none_has : (s : ℕ × ℕ) (found : List (ℕ × ℕ)) → end < s.0 → AreInOrder (s ∷ found) → list_any p (s ∷ found) ≡ false
+  pub none_has : (s : ℕ × ℕ) (found : List (ℕ × ℕ)) → end < s.0 → StartInOrder (s ∷ found) → list_any p (s ∷ found) ≡ false
   none_has s found less order = same_any p (s ∷ found) [] (none_after s found less order)
 
   pub one_has : (s : ℕ × ℕ) (found : List (ℕ × ℕ)) → p s ≡ true → list_any p (s ∷ found) ≡ true
@@ -136,11 +136,11 @@ module _ (begun : Bool) (start end : ℕ) where
     passed place less few low =
         ap (filter p) (at_index found k d below) ∙ filter_one p s rest false (counts_not begun place start end s less few low)
 
-    order_there : AreInOrder (map span_pair (drop k found)) → AreInOrder (s ∷ rest)
-    order_there order = subst AreInOrder (at_index found k d below) order
+    order_there : StartInOrder (map span_pair (drop k found)) → StartInOrder (s ∷ rest)
+    order_there order = subst StartInOrder (at_index found k d below) order
 
     abbrev HasLeft : ℕ → Type 0
-    HasLeft n = AreInOrder (map span_pair found) → AreInOrder (map span_pair (drop n found))
+    HasLeft n = StartInOrder (map span_pair found) → StartInOrder (map span_pair (drop n found))
         × (list_any p (map span_pair found) ≡ list_any p (map span_pair (drop n found)))
 
     pub has_on : p s ≡ false → HasLeft k → HasLeft (k + 1)
@@ -148,7 +148,7 @@ module _ (begun : Bool) (start end : ℕ) where
         let was = left order in
         ((order_there was.0).1, was.1 ∙ ap (list_any p) (at_index found k d below) ∙ other_has s rest e)
 
-    pub has_none : end < (get_or found k d).start → HasLeft k → AreInOrder (map span_pair found) → false ≡ list_any p (map span_pair found)
+    pub has_none : end < (get_or found k d).start → HasLeft k → StartInOrder (map span_pair found) → false ≡ list_any p (map span_pair found)
     has_none less left order =
         let was = left order in
         sym (was.1 ∙ ap (list_any p) (at_index found k d below) ∙ none_has s rest less (order_there was.0))
@@ -158,7 +158,7 @@ module _ (begun : Bool) (start end : ℕ) where
       parts_of l = map (part_at start end size) (filter p l)
 
       abbrev PartsLeft : ℕ → List (ℕ × ℕ) → Type 0
-      PartsLeft n parts = AreInOrder (map span_pair found) → AreInOrder (map span_pair (drop n found))
+      PartsLeft n parts = StartInOrder (map span_pair found) → StartInOrder (map span_pair (drop n found))
           × (parts ++ parts_of (map span_pair (drop n found)) ≡ before ++ parts_of (map span_pair found))
 
       pub parts_on : next ≡ now ++ parts_of (s ∷ []) → PartsLeft k now → PartsLeft (k + 1) next
@@ -171,7 +171,7 @@ module _ (begun : Bool) (start end : ℕ) where
                 ∙ was.1,
           )
 
-      pub parts_end : end < (get_or found k d).start → PartsLeft k now → AreInOrder (map span_pair found) →
+      pub parts_end : end < (get_or found k d).start → PartsLeft k now → StartInOrder (map span_pair found) →
           now ≡ before ++ parts_of (map span_pair found)
       parts_end less left order =
           let was = left order in

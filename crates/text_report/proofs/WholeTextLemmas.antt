@@ -9,7 +9,7 @@ use Rattle.grep_core.specs.declared.output_options.OutputOptions.{OutputOptions}
 use Rattle.grep_core.specs.declared.separator_state.SeparatorState.{SeparatorState}
 use Rattle.text_report.proofs.OrderLemmas.{in_order}
 use Rattle.text_report.specs.TextReports.{report_found, report_text, selected_in_found, selected_in_text}
-use Rattle.text_report.specs.Touching.{AreInOrder}
+use Rattle.text_report.specs.Touching.{StartInOrder}
 
 module _ (s : Sought) (by : SearchesFor s true) (text : List ℕ) (crlf : Bool) (all found : List Span) (crlf_is : crlf ≡ s.how.crlf)
     (same : all ≡ found) (reported : s.spans ≡ true → AreReported s.how s.texts text (map span_pair found)) where
@@ -19,8 +19,8 @@ module _ (s : Sought) (by : SearchesFor s true) (text : List ℕ) (crlf : Bool) 
       ∙ subst (λ (h : PatternOptions). AreReported h s.texts text (map span_pair found)) (sym by.same) (reported (by.may refl))
       by.patterns by.are_read
 
-  pub are_ordered : AreInOrder (map span_pair all)
-  are_ordered = subst AreInOrder (sym spans_are) (in_order by.how by.patterns text)
+  pub are_ordered : StartInOrder (map span_pair all)
+  are_ordered = subst StartInOrder (sym spans_are) (in_order by.how by.patterns text)
 
   pub whole_text : (w : OutputOptions) (name : List ℕ) (with_name : Bool) (known : SeparatorState) →
       report_found w crlf name with_name known (map span_pair all) text ≡ report_text w by.how by.patterns name with_name known text

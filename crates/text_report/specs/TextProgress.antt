@@ -7,14 +7,14 @@ use Rattle.grep_core.specs.Reporting.{left_of, number_of, reported_lines}
 use Rattle.grep_core.specs.Selecting.{count_selected, limited}
 use Rattle.grep_core.specs.declared.reporter.Reporter.{Reporter}
 use Rattle.text_report.specs.LineSpans.{lines_from}
-use Rattle.text_report.specs.TextReports.{is_wanted_in, item_of}
+use Rattle.text_report.specs.TextReports.{is_wanted_in, text_item}
 use Rattle.text_report.specs.Touching.{AreBefore}
 use Rattle.text_report.specs.declared.reporting.TextProgress.{TextProgress}
 use Rattle.text_report.specs.declared.reporting.TextTask.{TextTask}
 
 -- The matches of the text.
-abbrev pub found_of : TextTask → List (ℕ × ℕ)
-found_of t = map span_pair t.found.now
+abbrev pub matches_of_task : TextTask → List (ℕ × ℕ)
+matches_of_task t = map span_pair t.found.now
 
 -- The lines of the text that are left.
 abbrev pub lines_left : TextTask → TextProgress → List TextLine
@@ -22,11 +22,11 @@ lines_left t p = lines_from 10 t.text.now p.at.number p.at.place
 
 -- For each of these lines, whether it is selected, if so many of the lines before them are.
 abbrev pub flags_left : TextTask → ℕ → List TextLine → List Bool
-flags_left t n lines = limited (left_of t.what.now.most n) (map (is_wanted_in t.what.now (found_of t)) lines)
+flags_left t n lines = limited (left_of t.what.now.most n) (map (is_wanted_in t.what.now (matches_of_task t)) lines)
 
 abbrev pub reported_left : TextTask → Reporter → List TextLine → List ℕ
 reported_left t r lines = reported_lines t.what.now.print t.what.now t.name.now t.with_name r.course (number_of t.what.now.print r)
-    (flags_left t r.count lines) (map (item_of t.what.now t.crlf (found_of t)) lines)
+    (flags_left t r.count lines) (map (text_item t.what.now t.crlf (matches_of_task t)) lines)
 
 -- How many lines are selected in all.
 abbrev pub count_left : TextTask → Reporter → List TextLine → ℕ
@@ -39,7 +39,7 @@ pub record ReportsLines (t : TextTask) (old new : TextProgress) (before after : 
   pub are_before : AreBefore t.found.now new.at.first new.at.place
 
 -- The output for some lines was produced and written.
-pub record WritesLines (t : TextTask) (old new : TextProgress) (empty full : Option (List ℕ)) : Type 0 where
+pub record WritesTextLines (t : TextTask) (old new : TextProgress) (empty full : Option (List ℕ)) : Type 0 where
   pub reported : List ℕ
   pub written : Appends empty full reported
   pub printed : reported_left t old.telling (lines_left t old) ≡ reported ++ reported_left t new.telling (lines_left t new)

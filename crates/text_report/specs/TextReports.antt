@@ -31,8 +31,8 @@ abbrev pub counts_begun : OutputOptions → Bool
 counts_begun w = by_starts w || counts_matches w.print
 
 -- A line and the parts of matches that are shown in it.
-abbrev pub item_of : OutputOptions → Bool → List (ℕ × ℕ) → TextLine → Item
-item_of w crlf found line = item line (parts_in (counts_begun w) crlf found line)
+abbrev pub text_item : OutputOptions → Bool → List (ℕ × ℕ) → TextLine → Item
+text_item w crlf found line = item line (parts_in (counts_begun w) crlf found line)
 
 -- What is printed for lines with their matches, of which these are selected.
 abbrev pub report_items : Print → OutputOptions → List ℕ → Bool → SeparatorState → List Bool → List Item → List ℕ
@@ -49,7 +49,7 @@ report_items Nothing w name with_name known wanted items = []
 -- What is printed for a text that has these matches.
 abbrev pub report_found : OutputOptions → Bool → List ℕ → Bool → SeparatorState → List (ℕ × ℕ) → List ℕ → List ℕ
 report_found w crlf name with_name known found text =
-    report_items w.print w name with_name known (selected_in w found (text_lines text)) (map (item_of w crlf found) (text_lines text))
+    report_items w.print w name with_name known (selected_in w found (text_lines text)) (map (text_item w crlf found) (text_lines text))
 
 -- How many lines of a text are selected.
 abbrev pub selected_in_found : OutputOptions → List (ℕ × ℕ) → List ℕ → ℕ

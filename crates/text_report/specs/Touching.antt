@@ -7,16 +7,16 @@ use Rattle.line_search.specs.Lines.{TextLine, searched}
 
 -- A match begins in a line that is at these offsets, without the byte that ends it: at one of its bytes, at the byte that ends it, or at its
 -- end if none does.
-abbrev pub begins_at : ℕ → ℕ → ℕ × ℕ → Bool
-begins_at start end s = nat_le start s.0 && nat_le s.0 end
+abbrev pub begins_between : ℕ → ℕ → ℕ × ℕ → Bool
+begins_between start end s = nat_le start s.0 && nat_le s.0 end
 
 -- A match touches such a line: one of its bytes is a byte of the line or the byte that ends it, or it is empty and begins in the line.
 abbrev pub touches_at : ℕ → ℕ → ℕ × ℕ → Bool
-touches_at start end s = if nat_lt s.0 s.1 then nat_le s.0 end && nat_lt start s.1 else begins_at start end s
+touches_at start end s = if nat_lt s.0 s.1 then nat_le s.0 end && nat_lt start s.1 else begins_between start end s
 
 -- Which matches count for such a line: those that begin in it, or those that touch it.
 abbrev pub counts_at : Bool → ℕ → ℕ → ℕ × ℕ → Bool
-counts_at begun start end s = if begun then begins_at start end s else touches_at start end s
+counts_at begun start end s = if begun then begins_between start end s else touches_at start end s
 
 -- The part of a match that is in such a line, as offsets in the line, of which so many bytes are searched.
 abbrev pub part_at : ℕ → ℕ → ℕ → ℕ × ℕ → ℕ × ℕ
@@ -25,16 +25,16 @@ part_at start end size s =
     (first, max first (min (s.1 - start) size))
 
 -- The offset after the bytes of a line.
-abbrev pub line_end : TextLine → ℕ
-line_end line = line.place + length line.content.bytes
+abbrev pub content_end : TextLine → ℕ
+content_end line = line.place + length line.content.bytes
 
 -- Whether a match counts for a line.
 abbrev pub counts_for : Bool → TextLine → ℕ × ℕ → Bool
-counts_for begun line s = counts_at begun line.place (line_end line) s
+counts_for begun line s = counts_at begun line.place (content_end line) s
 
 -- The part of a match that is in a line. With `crlf`, a carriage return that belongs to the end of the line is in no part.
 abbrev pub part_in : Bool → TextLine → ℕ × ℕ → ℕ × ℕ
-part_in crlf line s = part_at line.place (line_end line) (length (searched crlf line.content)) s
+part_in crlf line s = part_at line.place (content_end line) (length (searched crlf line.content)) s
 
 -- Whether a line has a match of the text.
 abbrev pub has_match_of : Bool → List (ℕ × ℕ) → TextLine → Bool
@@ -50,9 +50,9 @@ NoneStartsBefore low [] = ⊤
 NoneStartsBefore low (s ∷ found) = (low ≤ s.0) × NoneStartsBefore low found
 
 -- None of the matches starts before an earlier one.
-abbrev pub AreInOrder : List (ℕ × ℕ) → Type 0
-AreInOrder [] = ⊤
-AreInOrder (s ∷ found) = NoneStartsBefore s.0 found × AreInOrder found
+abbrev pub StartInOrder : List (ℕ × ℕ) → Type 0
+StartInOrder [] = ⊤
+StartInOrder (s ∷ found) = NoneStartsBefore s.0 found × StartInOrder found
 
 -- The matches before this index count for no line that starts at this offset or after it.
 abbrev pub AreBefore : List Span → ℕ → ℕ → Type 0

@@ -24,5 +24,5 @@ pub use records::report_records;
 pub use reporting::report_text;
 pub use text_lines::{SeenLine, TextPosition, first_position, next_line, position_after};
 pub use touching::{
-    begins_at, counts_at, first_touching, from_index, has_one, part_at, push_parts, touches_at,
+    begins_between, counts_at, first_touching, from_index, has_one, part_at, push_parts, touches_at,
 };

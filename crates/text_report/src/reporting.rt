@@ -7,9 +7,9 @@ ghost use Rattle.line_search.specs.Searchers.{SearchesFor};
 ghost use Rattle.grep_core.specs.ContextPrinting.{Waits};
 ghost use Rattle.grep_core.specs.Report.{counted_as};
 ghost use Rattle.text_report.specs.LineSpans.{line_of};
-ghost use Rattle.text_report.specs.TextProgress.{ReportsLines, WritesLines, WritesPrefix, count_left, found_of, lines_left, reported_left};
-ghost use Rattle.text_report.specs.TextReports.{by_starts, counts_begun, item_of, report_found, report_text, selected_in_found, selected_in_text};
-ghost use Rattle.text_report.specs.Touching.{AreBefore, AreInOrder, has_match_of, parts_in};
+ghost use Rattle.text_report.specs.TextProgress.{ReportsLines, WritesTextLines, WritesPrefix, count_left, matches_of_task, lines_left, reported_left};
+ghost use Rattle.text_report.specs.TextReports.{by_starts, counts_begun, text_item, report_found, report_text, selected_in_found, selected_in_text};
+ghost use Rattle.text_report.specs.Touching.{AreBefore, StartInOrder, has_match_of, parts_in};
 
 use crate::lines::LineSpan;
 use crate::text_lines::{SeenLine, TextPosition, first_position, next_line, position_after};
@@ -69,9 +69,9 @@ fn parts_of(
 ) -> Result<Vec<Span>, AllocError>
     requires ordered { line.start ≤ line.end }
     requires inside { line.end ≤ length task.text.now }
-    ensures { IfOk result (λ parts. AreInOrder (found_of task.entry) → AreBefore task.entry.found.now first line.start →
+    ensures { IfOk result (λ parts. StartInOrder (matches_of_task task.entry) → AreBefore task.entry.found.now first line.start →
         map span_pair parts.items
-        ≡ parts_in (counts_begun task.entry.what.now) task.entry.crlf (found_of task.entry) (line_of task.entry.text.now line)) }
+        ≡ parts_in (counts_begun task.entry.what.now) task.entry.crlf (matches_of_task task.entry) (line_of task.entry.text.now line)) }
 {
     let bytes = &task.text[line.start..line.end];
     let size = searched(task.crlf, bytes, line.is_ended).len();
@@ -93,13 +93,13 @@ fn report_seen(
     requires waits { Waits task.what.now telling.old.course }
     requires ordered { seen.line.start ≤ seen.line.end }
     requires inside { seen.line.end ≤ length task.text.now }
-    ensures goes_on { OnOk result (AreInOrder (found_of task.entry) → AreBefore task.entry.found.now seen.first seen.line.start →
-        seen.has ≡ has_match_of (by_starts task.entry.what.now) (found_of task.entry) (line_of task.entry.text.now seen.line) →
+    ensures goes_on { OnOk result (StartInOrder (matches_of_task task.entry) → AreBefore task.entry.found.now seen.first seen.line.start →
+        seen.has ≡ has_match_of (by_starts task.entry.what.now) (matches_of_task task.entry) (line_of task.entry.text.now seen.line) →
         (lines : List TextLine) →
         out.old.items ++ reported_left task.entry telling.old (line_of task.entry.text.now seen.line ∷ lines)
         ≡ out.new.items ++ reported_left task.entry telling.new lines) }
     ensures counts { OnOk result (
-        seen.has ≡ has_match_of (by_starts task.entry.what.now) (found_of task.entry) (line_of task.entry.text.now seen.line) →
+        seen.has ≡ has_match_of (by_starts task.entry.what.now) (matches_of_task task.entry) (line_of task.entry.text.now seen.line) →
         (lines : List TextLine) →
         count_left task.entry telling.new lines ≡ count_left task.entry telling.old (line_of task.entry.text.now seen.line ∷ lines)) }
     ensures waits { OnOk result (Waits task.entry.what.now telling.new.course) }
@@ -140,7 +140,7 @@ fn report_next(
     ensures within { OnOk result (progress.new.at.place ≤ length task.entry.text.now) }
     ensures on { IfOk result (λ more. more ≡ true → progress.old.at.place < progress.new.at.place) }
     ensures end { IfOk result (λ more. more ≡ false → lines_left task.entry progress.new ≡ []) }
-    ensures goes_on { OnOk result (AreInOrder (found_of task.entry) → AreBefore task.entry.found.now progress.old.at.first progress.old.at.place →
+    ensures goes_on { OnOk result (StartInOrder (matches_of_task task.entry) → AreBefore task.entry.found.now progress.old.at.first progress.old.at.place →
         ReportsLines task.entry progress.old progress.new out.old.items out.new.items) }
 {
     let Some(seen) = next_line(task.text, task.found, by_starts(task.what), progress.at) else {
@@ -163,7 +163,7 @@ fn report_some(
     ensures waits { OnOk result (Waits task.entry.what.now progress.new.telling.course) }
     ensures within { OnOk result (progress.new.at.place ≤ length task.entry.text.now) }
     ensures end { IfOk result (λ more. more ≡ false → lines_left task.entry progress.new ≡ []) }
-    ensures goes_on { OnOk result (AreInOrder (found_of task.entry) → AreBefore task.entry.found.now progress.old.at.first progress.old.at.place →
+    ensures goes_on { OnOk result (StartInOrder (matches_of_task task.entry) → AreBefore task.entry.found.now progress.old.at.first progress.old.at.place →
         ReportsLines task.entry progress.old progress.new out.old.items out.new.items) }
 {
     for _lines in 0..usize::MAX {
@@ -191,9 +191,9 @@ fn write_some<W: Write>(
     ensures waits { OnOk result (Waits task.entry.what.now progress.new.telling.course) }
     ensures within { OnOk result (progress.new.at.place ≤ length task.entry.text.now) }
     ensures end { IfOk result (λ more. more ≡ false → lines_left task.entry progress.new ≡ []) }
-    ensures writes { OnOk result (AreInOrder (found_of task.entry) → AreBefore task.entry.found.now progress.old.at.first progress.old.at.place →
-        WritesLines task.entry progress.old progress.new (W.contents writer.old) (W.contents writer.new)) }
-    ensures fault { IfErr result (λ _. AreInOrder (found_of task.entry) →
+    ensures writes { OnOk result (StartInOrder (matches_of_task task.entry) → AreBefore task.entry.found.now progress.old.at.first progress.old.at.place →
+        WritesTextLines task.entry progress.old progress.new (W.contents writer.old) (W.contents writer.new)) }
+    ensures fault { IfErr result (λ _. StartInOrder (matches_of_task task.entry) →
         AreBefore task.entry.found.now progress.old.at.first progress.old.at.place →
         WritesPrefix task.entry progress.old (W.contents writer.old) (W.contents writer.new)) }
 {
@@ -219,9 +219,9 @@ fn write_lines<W: Write>(
     requires within { progress.old.at.place ≤ length task.text.now }
     ensures waits { OnOk result (Waits task.entry.what.now progress.new.telling.course) }
     ensures end { OnOk result (lines_left task.entry progress.new ≡ []) }
-    ensures writes { OnOk result (AreInOrder (found_of task.entry) → AreBefore task.entry.found.now progress.old.at.first progress.old.at.place →
-        WritesLines task.entry progress.old progress.new (W.contents writer.old) (W.contents writer.new)) }
-    ensures fault { IfErr result (λ _. AreInOrder (found_of task.entry) →
+    ensures writes { OnOk result (StartInOrder (matches_of_task task.entry) → AreBefore task.entry.found.now progress.old.at.first progress.old.at.place →
+        WritesTextLines task.entry progress.old progress.new (W.contents writer.old) (W.contents writer.new)) }
+    ensures fault { IfErr result (λ _. StartInOrder (matches_of_task task.entry) →
         AreBefore task.entry.found.now progress.old.at.first progress.old.at.place →
         WritesPrefix task.entry progress.old (W.contents writer.old) (W.contents writer.new)) }
 {
@@ -276,13 +276,13 @@ fn report_found<W: Write>(
     task: TextTask<'_>,
     known: SeparatorState,
 ) -> Result<u64, Fault>
-    ensures reported { OnOk result (AreInOrder (found_of task.entry) → Appends (W.contents writer.old) (W.contents writer.new)
-        (report_found task.entry.what.now task.entry.crlf task.entry.name.now task.entry.with_name known (found_of task.entry)
+    ensures reported { OnOk result (StartInOrder (matches_of_task task.entry) → Appends (W.contents writer.old) (W.contents writer.new)
+        (report_found task.entry.what.now task.entry.crlf task.entry.name.now task.entry.with_name known (matches_of_task task.entry)
         task.entry.text.now)) }
-    ensures selected { IfOk result (λ n. AreInOrder (found_of task.entry) →
-        n ≡ counted_as task.entry.what.now.print (selected_in_found task.entry.what.now (found_of task.entry) task.entry.text.now)) }
-    ensures fault { IfErr result (λ _. AreInOrder (found_of task.entry) → (n : ℕ) × Appends (W.contents writer.old) (W.contents writer.new)
-        (take n (report_found task.entry.what.now task.entry.crlf task.entry.name.now task.entry.with_name known (found_of task.entry)
+    ensures selected { IfOk result (λ n. StartInOrder (matches_of_task task.entry) →
+        n ≡ counted_as task.entry.what.now.print (selected_in_found task.entry.what.now (matches_of_task task.entry) task.entry.text.now)) }
+    ensures fault { IfErr result (λ _. StartInOrder (matches_of_task task.entry) → (n : ℕ) × Appends (W.contents writer.old) (W.contents writer.new)
+        (take n (report_found task.entry.what.now task.entry.crlf task.entry.name.now task.entry.with_name known (matches_of_task task.entry)
         task.entry.text.now))) }
 {
     let mut progress = TextProgress {

@@ -2,7 +2,7 @@
 ghost use Rattle.std.specs.Prelude.{◌≡◌, ◌+◌, ◌≤◌, [], IfNone, IfOk, IfSome, length, map};
 ghost use Rattle.line_search.specs.LineMatchers.{span_pair};
 ghost use Rattle.text_report.specs.LineSpans.{IsLineAt, line_of, lines_from, whole_end};
-ghost use Rattle.text_report.specs.Touching.{AreBefore, AreInOrder, has_match_of};
+ghost use Rattle.text_report.specs.Touching.{AreBefore, StartInOrder, has_match_of};
 
 use crate::lines::{LineSpan, line_at};
 use crate::touching::{first_touching, from_index, has_one};
@@ -46,7 +46,7 @@ pub fn next_line(text: &[u8], found: &[Span], begun: bool, at: TextPosition) -> 
     ensures none { IfNone result (lines_from 10 text.now at.number at.place ≡ []) }
     ensures some { IfSome result (λ seen. IsLineAt 10 text.now at.number at.place seen.line) }
     ensures first { IfSome result (λ seen. AreBefore found.now at.first at.place → AreBefore found.now seen.first seen.line.start) }
-    ensures has { IfSome result (λ seen. AreInOrder (map span_pair found.now) → AreBefore found.now at.first at.place →
+    ensures has { IfSome result (λ seen. StartInOrder (map span_pair found.now) → AreBefore found.now at.first at.place →
         seen.has ≡ has_match_of begun (map span_pair found.now) (line_of text.now seen.line)) }
 {
     let (number, place, from) = (at.number, at.place, at.first);

@@ -2,14 +2,14 @@
 ghost use Rattle.std.specs.Prelude.{◌≡◌, ◌++◌, ◌∷◌, ◌≤◌, [], ℕ, Bool, OnOk, drop, length, map};
 ghost use Rattle.std.specs.List.{filter, list_any};
 ghost use Rattle.line_search.specs.LineMatchers.{span_pair};
-ghost use Rattle.text_report.specs.Touching.{AreInOrder, begins_at, counts_at, part_at, touches_at};
+ghost use Rattle.text_report.specs.Touching.{StartInOrder, begins_between, counts_at, part_at, touches_at};
 
 use search_types::Span;
 use std::alloc::AllocError;
 
 /// Whether a match begins in a line that is at these offsets, without the byte that ends it.
-pub fn begins_at(start: usize, end: usize, span: Span) -> bool
-    ensures { result ≡ begins_at start end (span_pair span) }
+pub fn begins_between(start: usize, end: usize, span: Span) -> bool
+    ensures { result ≡ begins_between start end (span_pair span) }
 {
     start <= span.start && span.start <= end
 }
@@ -21,7 +21,7 @@ pub fn touches_at(start: usize, end: usize, span: Span) -> bool
     if span.start < span.end {
         return span.start <= end && start < span.end;
     }
-    begins_at(start, end, span)
+    begins_between(start, end, span)
 }
 
 /// Whether a match counts for such a line: it begins in the line, or if that isn't asked for, it touches the line.
@@ -29,7 +29,7 @@ pub fn counts_at(begun: bool, start: usize, end: usize, span: Span) -> bool
     ensures { result ≡ counts_at begun start end (span_pair span) }
 {
     if begun {
-        return begins_at(start, end, span);
+        return begins_between(start, end, span);
     }
     touches_at(start, end, span)
 }
@@ -67,7 +67,7 @@ pub fn first_touching(found: &[Span], from: usize, place: usize) -> usize
 
 /// Whether one of these matches, which are in order, counts for such a line. It stops at the first one after the line.
 pub fn has_one(found: &[Span], begun: bool, start: usize, end: usize) -> bool
-    ensures { AreInOrder (map span_pair found.now) → result ≡ list_any (counts_at begun start end) (map span_pair found.now) }
+    ensures { StartInOrder (map span_pair found.now) → result ≡ list_any (counts_at begun start end) (map span_pair found.now) }
 {
     for span in found {
         if end < span.start {
@@ -118,7 +118,7 @@ pub fn push_parts(
     end: usize,
     size: usize,
 ) -> Result<(), AllocError>
-    ensures { OnOk result (AreInOrder (map span_pair found.now) → map span_pair parts.new.items ≡ map span_pair parts.old.items
+    ensures { OnOk result (StartInOrder (map span_pair found.now) → map span_pair parts.new.items ≡ map span_pair parts.old.items
         ++ map (part_at start end size) (filter (counts_at begun start end) (map span_pair found.now))) }
 {
     for span in found {

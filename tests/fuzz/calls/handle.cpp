@@ -29,7 +29,7 @@ void check_message(const hanneddois_error &error) {
 
 bool has_position(hanneddois_status status) { return is_one_of(status, {HANNEDDOIS_SYNTAX_ERROR, HANNEDDOIS_NESTS_TOO_DEEP}); }
 
-bool has_pattern(hanneddois_status status) { return has_position(status) || is_one_of(status, {HANNEDDOIS_NOT_UTF8, HANNEDDOIS_EMPTY_LOOP}); }
+bool has_pattern(hanneddois_status status) { return has_position(status) || is_one_of(status, {HANNEDDOIS_NOT_UTF8, HANNEDDOIS_EMPTY_LOOP, HANNEDDOIS_WORD_BOUNDARY}); }
 
 } // namespace
 
@@ -64,7 +64,7 @@ Found Handle::make(const std::vector<Bytes> &patterns, const hanneddois_options 
     found.error = filled_error();
     found.status = hanneddois_new(raw(), texts.data(), texts.size(), reinterpret_cast<const size_t *>(counts.data()), lengths.size(), &options, &found.error);
     check(found.error.status == found.status, "the status of the error isn't the one that is returned");
-    check(!is_one_of(found.status, {HANNEDDOIS_NONE, HANNEDDOIS_HAYSTACK_NOT_UTF8}) && found.status < HANNEDDOIS_HAYSTACK_NOT_UTF8, "a regex is made with the status of a search");
+    check(found.status < HANNEDDOIS_WORD_BOUNDARY && found.status != HANNEDDOIS_NONE, "a regex is made with the status of a search");
     check_error(found.error, patterns);
     bool is_made = found.status == HANNEDDOIS_OK;
     check((raw()->inside != nullptr) == is_made, "a regex that isn't made isn't empty, or the other way round");

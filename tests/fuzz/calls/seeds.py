@@ -68,7 +68,7 @@ def rows():
 
 
 def seed(pick, patterns, haystacks):
-    flags = sum(1 << it for it in range(14) if pick.random() < 0.15)
+    flags = sum(1 << it for it in range(16) if pick.random() < 0.15)
     settings = [flags & 255, flags >> 8, pick.choice((0, 0, 0, 130)), pick.randrange(10), pick.randrange(8), len(patterns) - 1]
     calls = [pick.randrange(256) for _ in range(2 + 2 * pick.choice((4, 8, 16)))]
     first = bytes([*settings, *calls[:2], pick.choice((0, 13)), 0, *calls[2:]])
