@@ -144,7 +144,7 @@ RIPGREP = [
     row("`--colors`", "--colors=match:none ab log", why="`GREP_COLORS` sets the colours, as in GNU grep"),
     row("`-q`", "-q ab log"),
     row("`--null`, `-0`", "--null -l ab log other | --null -l ab log other"),
-    row("`--null-data`", "--null-data -c ab records", "--null-data -n two records", differing=("--null-data -c ^ab records",), how="`^` and `$` are the ends of a record, as in GNU grep"),
+    row("`--null-data`", "--null-data ab records", "--null-data -n two records", differing=("--null-data -c ^ab records",), how="`^` and `$` are the ends of a record, and a count ends in a line feed, as in GNU grep"),
     row("`--sort`", "--sort=path -l ab tree/in | -r --sort=path -l ab tree/in"),
     row("`--max-depth`", "--max-depth=1 --files tree | --max-depth=1 --glob=!.* --glob=!b.txt --sort=path --files tree"),
     row("`--crlf`", "--crlf ab$ crlf"),

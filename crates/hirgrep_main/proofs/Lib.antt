@@ -2,6 +2,7 @@ mod AskedLemmas
 mod ColorLemmas
 mod NameLemmas
 mod SelectingLemmas
+mod SureLemmas
 pub mod BinaryLemmas
 pub mod GivenLemmas
 pub mod OutcomeLemmas

@@ -1,5 +1,5 @@
 -- How inputs are read: line by line, or as a whole.
-use Rattle.std.specs.Prelude.{ℕ, ◌^◌, Bool, true, false, ◌&&◌, ◌||◌, codes, option_and_then, unwrap_or, if◌then◌else◌}
+use Rattle.std.specs.Prelude.{ℕ, ◌^◌, Bool, true, false, not, ◌&&◌, ◌||◌, codes, option_and_then, unwrap_or, if◌then◌else◌}
 use Rattle.clap.specs.Words.{first_value}
 use Rattle.clap.specs.declared.parser.matches.Found.{Found}
 use Rattle.grep_options.specs.Options.{is_set}
@@ -10,10 +10,10 @@ use Rattle.hirgrep_main.specs.declared.asked.Asked.{Asked}
 use Rattle.hirgrep_main.specs.declared.reading.Reading.{Reading}
 use Rattle.hirgrep_main.specs.declared.reading.Reading.TheVariants.{Lines, Records, Text, Events}
 
--- -z, --multiline, --json: the first one can't be given with the others. The last one decides how what is found is printed.
+-- -z, --multiline, --json: no two of them go together. The last one decides how lines are printed, and with -q none is.
 abbrev pub reading_given : Found → Reading
 reading_given f =
-    if is_set f (codes "json") then Events
+    if is_set f (codes "json") && not (is_set f (codes "quiet")) then Events
     else if is_set f (codes "multiline") then Text
     else if is_set f (codes "null-data") then Records
     else Lines

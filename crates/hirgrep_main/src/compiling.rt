@@ -1,5 +1,5 @@
 //! Compiles patterns, and searches files for them.
-ghost use Rattle.std.specs.Prelude.{◌≡◌, true, Result, Ok, IfOk, map, string_bytes};
+ghost use Rattle.std.specs.Prelude.{◌≡◌, true, false, Result, Ok, IfOk, map, string_bytes};
 ghost use Rattle.line_search.specs.Meant.{written};
 ghost use Rattle.hirgrep_main.specs.Decisions.{selects_none};
 ghost use Rattle.hirgrep_main.specs.Readings.{prints_summary};

@@ -30,7 +30,7 @@ pub enum Reading {
 pub fn reading_given(matches: &ArgMatches<'_>) -> Reading
     ensures { result ≡ reading_given (found_of matches.now) }
 {
-    if is_set(matches, "json") {
+    if is_set(matches, "json") && !is_set(matches, "quiet") {
         return Reading::Events;
     }
     if is_set(matches, "multiline") {
