@@ -39,7 +39,7 @@ module _ (w : OutputOptions) (name : List ℕ) (it : EventItem) (item : Item) (c
   context_item is e ends =
       ap₂ (λ bs n. printed bs (tally c.lines c.matches n))
       (e ∙ ap (λ bs. old ++ bs) (event_is w name Beside it item.number item.place item.bytes.now (map span_pair item.found.now) is.number
-          is.place is.bytes is.found))
+      is.place is.bytes is.found))
       (ends_at Beside is ends)
 
   pub selected_item : (lines matches : ℕ) → IsEventItem w Selected item it →
@@ -50,7 +50,7 @@ module _ (w : OutputOptions) (name : List ℕ) (it : EventItem) (item : Item) (c
   selected_item lines matches is e ends more found =
       ap₂ (λ bs n. printed bs (tally lines matches n))
       (e ∙ ap (λ bs. old ++ bs) (event_is w name Selected it item.number item.place item.bytes.now (map span_pair item.found.now) is.number
-          is.place is.bytes is.found))
+      is.place is.bytes is.found))
       (ends_at Selected is ends)
       ∙ ap₂ (λ n m. printed (old ++ event_of w name Selected it) (tally n m (it.place + length it.bytes)))
       (more ∙ ap (λ n. c.lines + n) is.lines) (found ∙ ap (λ fs. c.matches + length fs) is.found)
@@ -65,7 +65,7 @@ pub past_is : (text : List ℕ) (line : LineSpan) → line.start ≤ line.end �
 past_is text line ordered inside =
     past_by line.is_ended line.start (length (slice_range text line.start line.end)) line.end
     (let size : length (slice_range text line.start line.end) ≡ line.end - line.start =
-        length-take-le (line.end - line.start) (drop line.start text) (omega (arith, length-drop line.start text, inside)) in
+    length-take-le (line.end - line.start) (drop line.start text) (omega (arith, length-drop line.start text, inside)) in
     omega (arith, size, ordered))
 
 pub line_is_item : (w : OutputOptions) (f : LineMatcher) (role : Role) (text : List ℕ) (line : LineSpan) (item : Item) →
@@ -95,7 +95,7 @@ pub all_lines : (w : OutputOptions) (name : List ℕ) (f : LineMatcher) (text : 
     length text ≤ at → with_events w name rs (line_items w f text n at) p ≡ q → p ≡ q
 all_lines w name f text rs n at p q past kept =
     sym (no_items w name rs (line_items w f text n at) p
-        (ap (map (line_item f text)) (none_from w.terminator text n at (drop_of_length-le text past))))
+    (ap (map (line_item f text)) (none_from w.terminator text n at (drop_of_length-le text past))))
     ∙ kept
 
 -- before the first line

@@ -68,7 +68,11 @@ fn push_event(
 {
     let lines = Lines {
         kind,
-        number: if what.numbers { Some(item.number) } else { None },
+        number: if what.numbers {
+            Some(item.number)
+        } else {
+            None
+        },
         place: item.place,
         bytes: item.bytes,
         found: item.found,
@@ -282,9 +286,7 @@ fn push_next(
         return Err(Fault::TooLong);
     };
     let role = take_role(what, flags, turn);
-    match push_line(
-        alloc, out, finder, what, name, text, role, line, *counts,
-    ) {
+    match push_line(alloc, out, finder, what, name, text, role, line, *counts) {
         Ok(new) => {
             *counts = new;
             Ok(line.whole_end())
