@@ -164,7 +164,7 @@ class Runs {
         if (value % 2)
             patterns.clear();
         else
-            options.flags |= 1u << (15 + value / 2 % 17);
+            options.flags |= 1u << (16 + value / 2 % 16);
         Found found = side.handle.make(patterns, options);
         check(found.status == HANNEDDOIS_BAD_ARGUMENT, "a faulty argument is taken");
     }
