@@ -1363,7 +1363,7 @@ static inline int parse_default(const char *name, PyObject *const *args, Py_ssiz
 
 _Static_assert(FEW_GROUPS == 4, "so many objects are passed to PyTuple_Pack");
 
-/* The tuple of 1 to FEW_GROUPS groups. Packing a few objects costs less than setting each. PyTuple_Pack reads as many as it is told. */
+/* The tuple of 1 to FEW_GROUPS groups. Packing a few objects costs less than setting each. PyTuple_Pack reads as many arguments as its first one says. */
 static inline PyObject *few_groups_of(const Match *match, const Py_ssize_t *offsets, Py_ssize_t count, PyObject *otherwise)
 {
     PyObject *parts[FEW_GROUPS] = {NULL}, *haystack = match->haystack;
