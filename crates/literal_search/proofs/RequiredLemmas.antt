@@ -4,7 +4,7 @@ use Rattle.std.proofs.Common.{refl, sym, ap, subst, ◌∙◌, arith, Option, So
 use Rattle.std.proofs.lemmas.List.{drop_more}
 use Rattle.std.specs.List.{slice_range}
 use Rattle.search_core.specs.Utf8.{Spells}
-use Rattle.hir_core.specs.Tree.{Tree, literal, byte_class, char_class, repetition, nothing, cat, alt, concat, alternation}
+use Rattle.hir_core.specs.Tree.{Tree, byte_class, char_class, repetition, nothing, cat, alt, concat, alternation}
 use Rattle.hir_core.specs.Means.{Looks, Means, Rounds, is_member}
 use Rattle.hir_core.proofs.ForCallers.{span_forward}
 use Rattle.literal_search.specs.Literals.{Listed, KeepsAll, ListsPrefixes, Crosses, BeginsBy, IsOneOf, ContainsOne}

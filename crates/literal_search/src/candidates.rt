@@ -4,7 +4,7 @@ ghost use Rattle.hir_core.specs.Tree.{Tree, alternation};
 ghost use Rattle.literal_search.specs.Searches.{IsBegunBy, IsContainedIn, IsNextEnd, IsNextStart, AdvancesToStop};
 
 use crate::literals::Literals;
-use crate::required::{of_alternation, required_literals};
+use crate::required::{literals_of_all, required_literals};
 use crate::searching::{LiteralSearch, Stop};
 use crate::sets::cost;
 use hir_core::Hir;
@@ -151,7 +151,7 @@ impl CandidateFinder {
     ) -> Result<Option<CandidateFinder>, AllocError>
         ensures { IfOk result (λ made. IfSome made (λ f. IsBegunBy f (alternation trees.now))) }
     {
-        let all = of_alternation(alloc, trees)?;
+        let all = literals_of_all(alloc, trees)?;
         match finder_of(alloc, all.begins)? {
             Some(finder) => Ok(Some(finder)),
             None => Ok(None),

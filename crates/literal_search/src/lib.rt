@@ -5,6 +5,7 @@
 //! `specs/`.
 #![tactic(auto)]
 
+mod budget;
 mod candidates;
 mod classes;
 pub mod laws;

@@ -1,9 +1,10 @@
 //! The literals that each span of a tree contains.
-ghost use Rattle.std.specs.Prelude.{◌≡◌, ◌∷◌, [], Bool, Some, IfOk};
+ghost use Rattle.std.specs.Prelude.{◌≡◌, ◌∷◌, [], Bool, Some, IfOk, drop};
 ghost use Rattle.hir_core.specs.Tree.{Tree, empty, nothing, look, literal, byte_class, char_class, repetition, cat, alt, never, concat, alternation};
 ghost use Rattle.look_core.specs.declared.look.Look.{Look};
 ghost use Rattle.literal_search.specs.Required.{IsRequired};
 
+use crate::budget::Budget;
 use crate::classes::{byte_count, byte_literals, char_count, char_literals};
 use crate::literals::Literals;
 use crate::sets::{copied, join, rarer, union};
@@ -13,7 +14,7 @@ use std::alloc::{AllocError, Global};
 /// A class with more members is not listed.
 const MAX_MEMBERS: usize = 16;
 
-/// An alternation with more parts is not examined.
+/// An alternation with more parts is not examined, and of a concatenation so many parts are.
 const MAX_PARTS: usize = 256;
 
 /// What is known of each span of a tree. A literal without bytes stands everywhere, so a list with one says nothing.
@@ -187,45 +188,80 @@ fn either(alloc: Global, first: Required, second: Required) -> Result<Required, 
     })
 }
 
+/// What is known of the parts of a concatenation from this one on, none of which is examined.
+fn of_rest(alloc: Global, xs: &[Hir], from: usize) -> Result<Required, AllocError>
+    ensures { IfOk result (λ r. IsRequired r (concat (drop from xs.now))) }
+{
+    if from < xs.len() {
+        let all = unknown(alloc)?;
+        return Ok(all);
+    }
+    let all = of_empty(alloc)?;
+    Ok(all)
+}
+
 /// Literals of which each span of the tree contains one, and literals of which each begins with one. The only error is a failed
 /// allocation.
-#[cycle(required_literals)]
 pub fn required_literals(alloc: Global, x: &Hir) -> Result<Required, AllocError>
     ensures { IfOk result (λ r. IsRequired r x.now) }
 {
+    let mut budget = Budget::new();
+    let all = literals_of(alloc, &mut budget, x)?;
+    Ok(all)
+}
+
+/// The same of the spans of several trees.
+pub(crate) fn literals_of_all(alloc: Global, xs: &[Hir]) -> Result<Required, AllocError>
+    ensures { IfOk result (λ r. IsRequired r (alternation xs.now)) }
+{
+    let mut budget = Budget::new();
+    let all = of_alternation(alloc, &mut budget, xs)?;
+    Ok(all)
+}
+
+/// What is known of a tree.
+#[cycle(literals_of)]
+fn literals_of(alloc: Global, budget: &mut Budget, x: &Hir) -> Result<Required, AllocError>
+    ensures { IfOk result (λ r. IsRequired r x.now) }
+{
+    if budget.is_spent() {
+        let unlisted = unknown(alloc)?;
+        return Ok(unlisted);
+    }
     match x.kind() {
         HirKind::Empty | HirKind::Look(_) => of_empty(alloc),
         HirKind::Literal(bytes) => of_literal(alloc, bytes),
         HirKind::Bytes(ranges) => of_bytes(alloc, ranges),
         HirKind::Chars(ranges) => of_chars(alloc, ranges),
         HirKind::Repetition { min, max, sub, .. } => {
-            let body = required_literals(alloc, sub)?;
+            let body = literals_of(alloc, budget, sub)?;
             repeated(alloc, *min, *max, body)
         }
-        HirKind::Capture { sub, .. } => required_literals(alloc, sub),
-        HirKind::Concat(subs) => of_concat(alloc, subs),
-        HirKind::Alternation(subs) => of_alternation(alloc, subs),
+        HirKind::Capture { sub, .. } => literals_of(alloc, budget, sub),
+        HirKind::Concat(subs) => of_concat(alloc, budget, subs),
+        HirKind::Alternation(subs) => of_alternation(alloc, budget, subs),
     }
 }
 
-/// What is known of a concatenation.
-#[cycle(required_literals)]
-fn of_concat(alloc: Global, xs: &[Hir]) -> Result<Required, AllocError>
+/// What is known of a concatenation. Literals are listed of its first parts alone.
+#[cycle(literals_of)]
+fn of_concat(alloc: Global, budget: &mut Budget, xs: &[Hir]) -> Result<Required, AllocError>
     ensures { IfOk result (λ r. IsRequired r (concat xs.now)) }
 {
-    let mut all = of_empty(alloc)?;
-    let mut n = xs.len();
+    let mut n = xs.len().min(MAX_PARTS);
+    let mut all = of_rest(alloc, xs, n)?;
     while n > 0 {
         n -= 1;
-        let part = required_literals(alloc, &xs[n])?;
+        let part = literals_of(alloc, budget, &xs[n])?;
         all = followed(alloc, part, all)?;
+        budget.spend(&all.begins);
     }
     Ok(all)
 }
 
 /// What is known of an alternation.
-#[cycle(required_literals)]
-pub(crate) fn of_alternation(alloc: Global, xs: &[Hir]) -> Result<Required, AllocError>
+#[cycle(literals_of)]
+fn of_alternation(alloc: Global, budget: &mut Budget, xs: &[Hir]) -> Result<Required, AllocError>
     ensures { IfOk result (λ r. IsRequired r (alternation xs.now)) }
 {
     if xs.len() > MAX_PARTS {
@@ -236,8 +272,10 @@ pub(crate) fn of_alternation(alloc: Global, xs: &[Hir]) -> Result<Required, Allo
     let mut n = xs.len();
     while n > 0 {
         n -= 1;
-        let part = required_literals(alloc, &xs[n])?;
+        let part = literals_of(alloc, budget, &xs[n])?;
         all = either(alloc, part, all)?;
+        budget.spend(&all.begins);
+        budget.spend(&all.inside);
     }
     Ok(all)
 }

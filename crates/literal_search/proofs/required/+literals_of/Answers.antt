@@ -4,20 +4,20 @@ use Rattle.hir_core.specs.Node.{node}
 use Rattle.hir_core.specs.Weight.{weight}
 use Rattle.hir_core.proofs.ForCallers.{weight_in_concat, weight_of_either}
 use Rattle.literal_search.proofs.RequiredLemmas.{concat_more, alternation_more}
-use Rattle.literal_search.proofs.required.+required_literals.Goals as goal
+use Rattle.literal_search.proofs.required.+literals_of.Goals as goal
 
-pub of_concat-required_literals-requires : goal.of_concat-required_literals-requires
-of_concat-required_literals-requires t c =
+pub of_concat-literals_of-requires : goal.of_concat-literals_of-requires
+of_concat-literals_of-requires t c =
     let within : c.loop-n.n - 1 < length c.args.xs.now = omega (arith, c.loop-n-test.true, c.loop-n.invariant.0) in
     (omega (arith, weight_in_concat c.args.xs.now (c.loop-n.n - 1) c.index-xs-n.result within, ap weight c.index-xs-n.is), tt)
 
-pub of_alternation-required_literals-requires : goal.of_alternation-required_literals-requires
-of_alternation-required_literals-requires t c =
+pub of_alternation-literals_of-requires : goal.of_alternation-literals_of-requires
+of_alternation-literals_of-requires t c =
     let within : c.loop-n.n - 1 < length c.args.xs.now = omega (arith, c.loop-n-test.true, c.loop-n.invariant.0) in
     (omega (arith, weight_in_concat c.args.xs.now (c.loop-n.n - 1) c.index-xs-n.result within, ap weight c.index-xs-n.is), tt)
 
-pub required_literals-of_alternation-requires : goal.required_literals-of_alternation-requires
-required_literals-of_alternation-requires t c =
+pub literals_of-of_alternation-requires : goal.literals_of-of_alternation-requires
+literals_of-of_alternation-requires t c =
     let is = ap alternation c.deref-in-Alternation.ensures.value ∙ sym (ap node c.in-Alternation.is) ∙ c.kind.ensures.is in
     (omega (arith, weight_of_either c.deref-in-Alternation.result.now, ap weight is), tt)
 

@@ -2,10 +2,10 @@ use Rattle.std.proofs.Common.{◌+◌, ◌*◌, ◌≤◌, length, drop}
 use Rattle.hir_core.specs.Tree.{concat, alternation}
 use Rattle.hir_core.specs.Weight.{weight}
 use Rattle.literal_search.specs.Required.{IsRequired}
-use Rattle.literal_search.proofs.required.+required_literals.Given as goal
+use Rattle.literal_search.proofs.required.+literals_of.Given as goal
 
-abbrev pub decreases-required_literals : goal.decreases-required_literals
-decreases-required_literals l = 2 * weight l.x.now + 1
+abbrev pub decreases-literals_of : goal.decreases-literals_of
+decreases-literals_of l = 2 * weight l.x.now + 1
 
 abbrev pub decreases-of_concat : goal.decreases-of_concat
 decreases-of_concat l = 2 * weight (concat l.xs.now)
