@@ -33,7 +33,7 @@ leads c s (from_40000 a b d f r t u w e v) = record { byte = a; rest = _; is = e
 leads c s (from_100000 a b d f r t u w e v) = record { byte = a; rest = _; is = e; low = λ l. absurd (omega (arith, r, l)); high = λ l. omega (arith, v, r) }
 
 -- ---- lists
-rest_stands : (h : List ℕ) (i : ℕ) (bytes : List ℕ) → stands h i bytes ≡ true → drop i h ≡ bytes ++ drop (length bytes) (drop i h)
+pub rest_stands : (h : List ℕ) (i : ℕ) (bytes : List ℕ) → stands h i bytes ≡ true → drop i h ≡ bytes ++ drop (length bytes) (drop i h)
 rest_stands h i bytes e = (starts_is Decides-eqb (drop i h) bytes true (sym e)).0 refl
 
 get_first : (i : ℕ) (h : List ℕ) → slice_get (drop i h) 0 ≡ slice_get h i
@@ -42,7 +42,7 @@ get_first zero (a ∷ h) = refl
 get_first (suc i) [] = refl
 get_first (suc i) (a ∷ h) = get_first i h
 
-first_of_rest : (h : List ℕ) (i b : ℕ) (rest : List ℕ) → drop i h ≡ b ∷ rest → slice_get h i ≡ Some b
+pub first_of_rest : (h : List ℕ) (i b : ℕ) (rest : List ℕ) → drop i h ≡ b ∷ rest → slice_get h i ≡ Some b
 first_of_rest h i b rest e = sym (get_first i h) ∙ ap (λ (l : List ℕ). slice_get l 0) e
 
 first_of_taken : (n : ℕ) (xs : List ℕ) (b : ℕ) (rest : List ℕ) → take n xs ≡ b ∷ rest → slice_get xs 0 ≡ Some b

@@ -10,6 +10,10 @@ pub mod NextLemmas
 mod OrderLemmas
 mod RefusalLemmas
 mod RunLemmas
+mod PartLemmas
+mod SplittingLemmas
+mod SequenceLemmas
+mod WayLemmas
 mod RunAnswerLemmas
 mod WordlessLemmas
 mod StartLemmas

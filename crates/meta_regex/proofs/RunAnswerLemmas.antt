@@ -1,8 +1,7 @@
--- What a search for a run finds is what the toolchain's matcher finds.
+-- What a search without automata finds is what the toolchain's matcher finds.
 use Rattle.std.proofs.Common.{◌≡◌, ℕ, suc, ◌+◌, ◌-◌, ◌<◌, ◌≤◌, Bool, true, false, nat_le, List, [], ◌∷◌, ◌++◌, length, map, All}
-use Rattle.std.proofs.Common.{Option, Some, None, option_map, refl, sym, ap, subst, ◌∙◌, arith, inl, le-leb, if◌then◌else◌}
+use Rattle.std.proofs.Common.{Option, Some, None, option_map, refl, sym, ap, subst, ◌∙◌, arith, inl, inr, le-leb, if◌then◌else◌}
 use Rattle.std.specs.List.{filter}
-use Rattle.std.specs.Prelude.{IfSome}
 use Rattle.std.proofs.lemmas.Bool.{and_from}
 use Rattle.regex_hir.specs.Re.{Re}
 use Rattle.regex_hir.specs.Meaning.{alt_all}
@@ -25,10 +24,10 @@ use Rattle.pattern_search.specs.Written.{FindsWhatIsWritten}
 use Rattle.pattern_search.proofs.ForCallers.{answer_is_loose, finds_what_is_written, same_patterns}
 use Rattle.meta_regex.specs.declared.runs.NextRun.{NextRun}
 use Rattle.meta_regex.specs.declared.runs.NextRun.TheVariants.{Found as FoundRun, Missing, From}
-use Rattle.meta_regex.specs.declared.runs.Run.{Run}
 use Rattle.meta_regex.specs.Regexes.{HasFoundSpan, HasFoundStart, row_of}
-use Rattle.meta_regex.specs.Runs.{IsNextRun, IsRunOfTrees, PrefersEnd}
-use Rattle.meta_regex.specs.Starts.{AreTreesOf, HasSoughtSpan, IsRunOfTexts, IsSought, sought_of}
+use Rattle.meta_regex.specs.Runs.{IsNextRun, PrefersEnd}
+use Rattle.meta_regex.specs.Starts.{AreTreesOf, HasSoughtSpan, IsSought, sought_of}
+use Rattle.meta_regex.specs.Ways.{IsNextOf}
 use Rattle.meta_regex.specs.Wordless.{MayBeginAt}
 use Rattle.meta_regex.proofs.AnchoredLemmas.{if_true, or_first}
 use Rattle.meta_regex.proofs.StartLemmas.{begins_at_start, found_later, only_next, span_later}
@@ -132,25 +131,21 @@ module _ (config : Config) (texts : List (List ℕ)) (loops : Bool) (x : Tree) (
   has_sought_span Missing on it = tt
   has_sought_span (From s) on it = tt
 
--- ---- of the run that the only pattern is
-module _ (config : Config) (texts : List (List ℕ)) (loops : Bool) (r : Run) (it : IsRunOfTexts config texts loops r)
-    (h : List ℕ) (bytes : All (λ b. b < 256) h) (valid : config.utf8 ≡ true → IsValidText h) (at : ℕ) (next : NextRun)
-    (found : IsNextRun it.run.tree h at next) where
-  trees : AreTreesOf config texts loops (it.run.tree ∷ [])
-  trees = subst (λ (xs : List Tree). AreTreesOf config texts loops xs) it.run.only it.searched
-
-  pub run_sought : IsSought config texts h at (sought_of next)
-  run_sought = is_sought config texts loops it.run.tree trees h bytes valid at next found
-
-  pub run_sought_span : loops ≡ true → HasSoughtSpan config texts h at (sought_of next)
-  run_sought_span on = has_sought_span config texts loops it.run.tree trees h bytes valid at next on found
-
 -- a search may begin where it begins
-pub begins_here : (config : Config) (texts : List (List ℕ)) (h : List ℕ) (at : ℕ) → at ≤ length h → MayBeginAt config texts h at (Some at)
+begins_here : (config : Config) (texts : List (List ℕ)) (h : List ℕ) (at : ℕ) → at ≤ length h → MayBeginAt config texts h at (Some at)
 begins_here config texts h at within = (within, λ res read. refl)
 
--- a run of the only tree is one of the only pattern
-pub run_of_texts : (config : Config) (texts : List (List ℕ)) (loops : Bool) (xs : List Tree) → AreTreesOf config texts loops xs →
-    (o : Option Run) → IfSome o (λ r. IsRunOfTrees r xs) → IfSome o (IsRunOfTexts config texts loops)
-run_of_texts config texts loops xs of None none = tt
-run_of_texts config texts loops xs of (Some r) run = record { trees = xs; searched = of; run = run }
+-- ---- of the only pattern
+module _ (config : Config) (texts : List (List ℕ)) (loops : Bool) (xs : List Tree) (trees : AreTreesOf config texts loops xs)
+    (h : List ℕ) (bytes : All (λ b. b < 256) h) (valid : config.utf8 ≡ true → IsValidText h) (at : ℕ) (within : at ≤ length h)
+    (next : NextRun) where
+  one : (x : Tree) → xs ≡ x ∷ [] → AreTreesOf config texts loops (x ∷ [])
+  one x only = subst (λ (l : List Tree). AreTreesOf config texts loops l) only trees
+
+  pub way_sought : IsNextOf xs h at next → IsSought config texts h at (sought_of next)
+  way_sought (inl none) = subst (λ (n : NextRun). IsSought config texts h at (sought_of n)) (sym none) (begins_here config texts h at within)
+  way_sought (inr it) = is_sought config texts loops it.tree (one it.tree it.only) h bytes valid at next it.found
+
+  pub way_sought_span : loops ≡ true → IsNextOf xs h at next → HasSoughtSpan config texts h at (sought_of next)
+  way_sought_span on (inl none) = subst (λ (n : NextRun). HasSoughtSpan config texts h at (sought_of n)) (sym none) tt
+  way_sought_span on (inr it) = has_sought_span config texts loops it.tree (one it.tree it.only) h bytes valid at next on it.found

@@ -50,7 +50,7 @@ module _ (f : Ends) (a e : ℕ) (one : (k : ℕ) → a ≤ k → k < e → f k �
         is = ap (λ (l : List ℕ). flat_map (at_least h true f least) l) (one k low (omega (arith, room))) ∙ ap (λ (l : List ℕ). l ++ []) rest.is;
       }
 
-  too_few : (h : List ℕ) (least k : ℕ) → a ≤ k → k ≤ e → e < k + least → at_least h true f least k ≡ []
+  pub too_few : (h : List ℕ) (least k : ℕ) → a ≤ k → k ≤ e → e < k + least → at_least h true f least k ≡ []
   too_few h zero k low high short = absurd (omega (arith, high, short))
   too_few h (suc least) k low high short = elim (cases_lt k e) [
     | inl less ↦
@@ -70,16 +70,25 @@ byte_ends : (ranges : List (ℕ × ℕ)) (o : Option ℕ) (i b : ℕ) → o ≡ 
 byte_ends ranges o i b is member =
     ap (λ (o : Option ℕ). class_end ranges o i) is ∙ one_if (is_member ranges b) (i + 1) member
 
+-- ---- rounds of a class
+module _ (r : Run) (body : Tree) (it : AreRoundsOf r body) (h : List ℕ) (bytes : All (λ b. b < 256) h) (looks : Looks) where
+  -- no round begins where no byte is, or one with which none begins
+  pub no_round : (s : ℕ) → (s < length h → has r.first (get_or h s 0) ≡ false) → preferred_ends looks h body s ≡ []
+  no_round s outside = nil_from_none (preferred_ends looks h body s) (λ k ends.
+      let m = it.first.begun looks h s k bytes (preferred_ends_sound looks h body s k ends) in
+      true≢false (sym m.2 ∙ ap (has r.first) (sym (get_or_from_slice_get h s m.0 0 m.1)) ∙ outside (slice_get_within h s m.0 m.1)))
+
+  pub one_round : (k : ℕ) → k < length h → has r.members (get_or h k 0) ≡ true → preferred_ends looks h body k ≡ (k + 1) ∷ []
+  one_round k within member =
+      it.members.one looks h k (get_or h k 0) bytes (slice_get-get_or h k 0 within) member
+
 -- ---- runs
 module _ (r : Run) (x : Tree) (it : IsRunOf r x) (h : List ℕ) (bytes : All (λ b. b < 256) h) (looks : Looks) where
   abbrev round : Ends
   round = preferred_ends looks h it.body
 
-  -- no round begins where no byte is, or one with which none begins
   none_from : (s : ℕ) → (s < length h → has r.first (get_or h s 0) ≡ false) → round s ≡ []
-  none_from s outside = nil_from_none (round s) (λ k ends.
-      let m = it.rounds.first.begun looks h s k bytes (preferred_ends_sound looks h it.body s k ends) in
-      true≢false (sym m.2 ∙ ap (has r.first) (sym (get_or_from_slice_get h s m.0 0 m.1)) ∙ outside (slice_get_within h s m.0 m.1)))
+  none_from s outside = no_round r it.body it.rounds h bytes looks s outside
 
   none_starts : (s : ℕ) → preferred_ends looks h x s ≡ [] → (j : ℕ) → Means looks h x s j → ⊥
   none_starts s none j m = subst (λ (l : List ℕ). Has l j) none (preferred_ends_complete looks h x s j m)
@@ -89,14 +98,13 @@ module _ (r : Run) (x : Tree) (it : IsRunOf r x) (h : List ℕ) (bytes : All (λ
   some_rounds s (suc least) some none = ap (λ (l : List ℕ). flat_map (at_least h true round least) l) none
 
   none_outside : (s : ℕ) → (s < length h → has r.first (get_or h s 0) ≡ false) → (j : ℕ) → Means looks h x s j → ⊥
-  none_outside s outside = none_starts s (it.ends looks h s ∙ some_rounds s r.least it.rounds.some (none_from s outside))
+  none_outside s outside = none_starts s (it.ends looks h s ∙ some_rounds s r.least it.some (none_from s outside))
 
   -- between these offsets each byte is a round
   module _ (s e : ℕ) (within : e ≤ length h) (members : (k : ℕ) → s ≤ k → k < e → has r.members (get_or h k 0) ≡ true)
       (outside : e < length h → has r.first (get_or h e 0) ≡ false) where
     one_each : (k : ℕ) → s ≤ k → k < e → round k ≡ (k + 1) ∷ []
-    one_each k low high =
-        it.rounds.members.one looks h k (get_or h k 0) bytes (slice_get-get_or h k 0 (omega (arith, high, within))) (members k low high)
+    one_each k low high = one_round r it.body it.rounds h bytes looks k (omega (arith, high, within)) (members k low high)
 
     run_led : s + r.least ≤ e → Led (preferred_ends looks h x s) e
     run_led room =
@@ -131,7 +139,7 @@ module _ (r : Run) (h : List ℕ) (bytes : All (λ b. b < 256) h) (from at start
     pub finds_run : start + r.least ≤ end → IsNextStart x h from (Some start) × (start < end) × (end ≤ length h) × PrefersEnd x h start end
     finds_run room = (
       stops_before,
-      omega (arith, room, it.rounds.some),
+      omega (arith, room, it.some),
       high,
       record {
         others = λ looks. (run_led r x it h bytes looks start end high members outside room).others;

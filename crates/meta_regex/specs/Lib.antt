@@ -3,7 +3,11 @@ pub mod Regexes
 pub mod Fallbacks
 pub mod FirstBytes
 pub mod Runs
+pub mod Parts
+pub mod Splitting
+pub mod Sequences
 pub mod Caches
 pub mod Wordless
 pub mod Lists
 pub mod Starts
+pub mod Ways

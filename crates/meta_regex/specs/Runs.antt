@@ -28,10 +28,10 @@ pub record AreRoundsOf (r : Run) (body : Tree) : Type 0 where
   pub starts : (b : ℕ) → b < 256 → has r.starts b ≡ has r.first b
   pub members : AreMembers r.members body
   pub others : (b : ℕ) → b < 256 → has r.ends b ≡ not (has r.members b)
-  pub some : 0 < r.least
 
--- the tree is at least so many rounds of such a body, of which more are preferred
+-- the tree is at least so many rounds of such a body, of which more are preferred, and at least one
 pub record IsRunOf (r : Run) (x : Tree) : Type 0 where
+  pub some : 0 < r.least
   pub body : Tree
   pub rounds : AreRoundsOf r body
   pub ends : (looks : Looks) (h : List ℕ) (i : ℕ) → preferred_ends looks h x i ≡ at_least h true (preferred_ends looks h body) r.least i

@@ -23,8 +23,6 @@ use Rattle.meta_regex.specs.declared.literal_starts.LiteralStarts.TheVariants.{U
 use Rattle.meta_regex.specs.FirstBytes.{AreFirstBytes}
 use Rattle.meta_regex.specs.declared.runs.NextRun.{NextRun}
 use Rattle.meta_regex.specs.declared.runs.NextRun.TheVariants.{Found as FoundRun, Missing as NoRun, From as FromRun}
-use Rattle.meta_regex.specs.declared.runs.Run.{Run}
-use Rattle.meta_regex.specs.Runs.{IsRunOfTrees}
 use Rattle.meta_regex.specs.Regexes.{HasFoundStart, HasFoundSpan, row_of}
 use Rattle.meta_regex.specs.Wordless.{MayBeginAt}
 
@@ -94,18 +92,12 @@ abbrev pub HasStepSpan : Config → List (List ℕ) → List ℕ → ℕ → Ste
 HasStepSpan config texts h at (Done o) = HasSoughtSpan config texts h at o
 HasStepSpan config texts h at (Next s) = ⊤
 
--- ---- runs of a class
+-- ---- searches without automata
 -- trees of these patterns: with UTF-8 alone if that is required, and with bodies of loops that consume bytes if `loops` is true
 pub record AreTreesOf (config : Config) (texts : List (List ℕ)) (loops : Bool) (trees : List Tree) : Type 0 where
   pub mean : AllMean config texts trees
   pub utf8 : config.utf8 ≡ true → All (λ x. is_utf8_tree x ≡ true) trees
   pub loops_read : loops ≡ true → All LoopsRead trees
-
--- there is one pattern, and its tree is such a run
-pub record IsRunOfTexts (config : Config) (texts : List (List ℕ)) (loops : Bool) (r : Run) : Type 0 where
-  pub trees : List Tree
-  pub searched : AreTreesOf config texts loops trees
-  pub run : IsRunOfTrees r trees
 
 -- what was found is what the search found: the match of the only pattern, that there is none, or where a search may begin instead
 abbrev pub sought_of : NextRun → Sought

@@ -1,16 +1,17 @@
 //! A regex of several patterns.
-ghost use Rattle.std.specs.Prelude.{◌≡◌, IfErr, IfOk, IfSome, length, map, string_bytes};
+ghost use Rattle.std.specs.Prelude.{◌≡◌, IfErr, IfOk, length, map, string_bytes};
 ghost use Rattle.search_types.specs.declared.match_kind.MatchKind.TheVariants.{LeftmostFirst};
 ghost use Rattle.meta_regex.specs.Regexes.{AreReportedOf, IsMadeOf, IsNewError, config_by};
-ghost use Rattle.meta_regex.specs.Starts.{AreStartsOf, IsRunOfTexts};
+ghost use Rattle.meta_regex.specs.Starts.{AreStartsOf};
+ghost use Rattle.meta_regex.specs.Ways.{HasWay};
 
 use crate::building::build_pair;
 use crate::errors::NewError;
 use crate::literal_starts::LiteralStarts;
 use crate::options::Options;
-use crate::runs::{Run, run_of_only};
 use crate::short_loops::all_have_short_loops;
 use crate::texts::owned;
+use crate::ways::Way;
 use search_types::MatchKind;
 use std::alloc::Global;
 use std::marker::Model;
@@ -20,6 +21,9 @@ const CANDIDATE: usize = 128;
 
 /// How many skipped bytes make up for a search that begins at the start of a literal's line.
 const CANDIDATE_LINE: usize = 256;
+
+/// How many skipped bytes make up for a literal at which a match is tried without automata.
+const CANDIDATE_PARTS: usize = 24;
 
 /// A regex made from patterns. Nothing in it changes, so several callers may search by it, each with a [`Cache`](crate::Cache) of its own.
 ///
@@ -35,16 +39,17 @@ pub struct Regex {
     starts: LiteralStarts,
     /// Whether a try to match at one offset is expected to read few bytes.
     short: bool,
-    /// The run of a class that its only pattern is, if it is one.
-    run: Option<Run>,
+    /// How matches are found.
+    way: Way,
 }
 
 impl Model for Regex {
-    ghost use Rattle.std.specs.Prelude.{IfSome, map, string_bytes};
+    ghost use Rattle.std.specs.Prelude.{map, string_bytes};
     ghost use Rattle.search_types.specs.declared.match_kind.MatchKind.TheVariants.{LeftmostFirst};
     ghost use Rattle.meta_regex.specs.Options.{config_of};
     ghost use Rattle.meta_regex.specs.Regexes.{RegexValue, AreReportedOf};
-    ghost use Rattle.meta_regex.specs.Starts.{AreStartsOf, IsRunOfTexts};
+    ghost use Rattle.meta_regex.specs.Starts.{AreStartsOf};
+    ghost use Rattle.meta_regex.specs.Ways.{HasWay};
 
     ghost Value = { RegexValue };
 
@@ -52,7 +57,7 @@ impl Model for Regex {
 
     ghost invariant = { λ r. AreReportedOf (config_of r.options) (map string_bytes r.texts.items) LeftmostFirst r.loops r.pair
         × AreStartsOf (config_of r.options) (map string_bytes r.texts.items) r.starts
-        × IfSome r.run (IsRunOfTexts (config_of r.options) (map string_bytes r.texts.items) r.loops) };
+        × HasWay (config_of r.options) (map string_bytes r.texts.items) r.loops r.starts r.way };
 }
 
 impl Regex {
@@ -71,7 +76,7 @@ impl Regex {
         };
         let short = all_have_short_loops(&built.trees);
         let starts = LiteralStarts::of(alloc, &built.trees, short);
-        let run = run_of_only(&built.trees);
+        let way = Way::of(alloc, &built.trees, &starts);
         Ok(Regex {
             pair: built.pair,
             texts: copies,
@@ -79,7 +84,7 @@ impl Regex {
             loops: built.loops,
             starts,
             short,
-            run,
+            way,
         })
     }
 
@@ -126,12 +131,20 @@ impl Regex {
         &self.starts
     }
 
-    /// The run of a class that its only pattern is, if it is one.
-    #[inline(always)]
-    pub(crate) fn run(&self) -> Option<&Run>
-        ensures { IfSome result (λ r. IsRunOfTexts (config_by self.now) self.now.texts self.now.loops r.now) }
+    /// How matches are found, and what literals say of where they start.
+    pub(crate) fn way(&self) -> (&Way, &LiteralStarts)
+        ensures { HasWay (config_by self.now) self.now.texts self.now.loops result.1.now result.0.now }
     {
-        self.run.as_ref()
+        (&self.way, &self.starts)
+    }
+
+    /// Whether each search needs automata.
+    #[inline(always)]
+    pub(crate) fn needs_automata(&self) -> bool {
+        match self.way {
+            Way::Automata => true,
+            Way::Run(_) | Way::Sequence(_) => false,
+        }
     }
 
     /// Whether anything is known of where matches start.
@@ -152,8 +165,12 @@ impl Regex {
         }
     }
 
-    /// How many skipped bytes make up for the search that begins at a literal. Where it begins at the start of a line, it costs more.
+    /// How many skipped bytes make up for the search that begins at a literal. Where it begins at the start of a line, it costs more, and
+    /// where it needs no automata, less.
     pub(crate) fn candidate_price(&self) -> usize {
+        if !self.needs_automata() {
+            return CANDIDATE_PARTS;
+        }
         match self.starts {
             LiteralStarts::InLine(_) => CANDIDATE_LINE,
             LiteralStarts::Begins(_) | LiteralStarts::FirstByte(_) | LiteralStarts::Unknown =>

@@ -18,10 +18,14 @@ mod literal_starts;
 mod matching_patterns;
 mod options;
 mod overlapping;
+mod parts;
 mod runs;
 mod searching;
+mod sequences;
 mod short_loops;
+mod splitting;
 mod texts;
+mod ways;
 mod wordless;
 
 pub use cache::Cache;

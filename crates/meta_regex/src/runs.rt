@@ -81,7 +81,7 @@ fn first_bytes_of(x: &Hir) -> ByteSet
 }
 
 /// A test for each byte of a set.
-fn flags_of(set: &ByteSet) -> [bool; 256]
+pub(crate) fn flags_of(set: &ByteSet) -> [bool; 256]
     ensures { (b : ℕ) → b < 256 → has result b ≡ has set.now b }
 {
     let mut flags = [false; 256];
@@ -103,11 +103,11 @@ fn flags_of_others(set: &ByteSet) -> [bool; 256]
 }
 
 /// At least so many rounds of this body, if it is a class with a byte that is a round.
-fn run_of_body(least: usize, body: &Hir) -> Option<Run>
+pub(crate) fn run_of_body(least: usize, body: &Hir) -> Option<Run>
     ensures least { IfSome result (λ r. r.least ≡ least) }
     ensures rounds { IfSome result (λ r. AreRoundsOf r body.now) }
 {
-    if least == 0 || may_be_empty(body) {
+    if may_be_empty(body) {
         return None;
     }
     let members = members_of(body);
@@ -137,7 +137,7 @@ fn run_of(x: &Hir) -> Option<Run>
     else {
         return None;
     };
-    if max.is_some() || !*greedy {
+    if max.is_some() || !*greedy || *min == 0 {
         return None;
     }
     let Some(run) = run_of_body(*min as usize, sub) else {
@@ -174,7 +174,7 @@ pub(crate) fn run_of_only(trees: &[Hir]) -> Option<Run>
 
 /// The first offset from `from` on, before `end`, whose byte isn't of the set, or otherwise `end`.
 #[inline(always)]
-fn skip_members(set: &ByteSet, haystack: &[u8], from: usize, end: usize) -> usize
+pub(crate) fn skip_members(set: &ByteSet, haystack: &[u8], from: usize, end: usize) -> usize
     requires fits { from ≤ end }
     requires within { end ≤ length haystack.now }
     ensures low { from ≤ result }
@@ -190,7 +190,7 @@ fn skip_members(set: &ByteSet, haystack: &[u8], from: usize, end: usize) -> usiz
 
 /// Whether a byte of the set is at this offset.
 #[inline(always)]
-fn stands_at(set: &ByteSet, haystack: &[u8], at: usize) -> bool
+pub(crate) fn stands_at(set: &ByteSet, haystack: &[u8], at: usize) -> bool
     ensures { result ≡ false → at < length haystack.now → has set.now (get_or haystack.now at 0) ≡ false }
 {
     at < haystack.len() && set.contains(haystack[at])
@@ -227,7 +227,7 @@ impl Run {
 
     /// The end of the run that begins at this offset. Most runs are short, so the next bytes are examined one by one.
     #[inline(always)]
-    fn run_end(&self, haystack: &[u8], from: usize) -> usize
+    pub(crate) fn run_end(&self, haystack: &[u8], from: usize) -> usize
         requires { from ≤ length haystack.now }
         ensures low { from ≤ result }
         ensures high { result ≤ length haystack.now }

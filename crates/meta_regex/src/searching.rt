@@ -58,7 +58,7 @@ fn check_text(haystack: &[u8], utf8: bool) -> Result<(), SearchError>
     }
 }
 
-/// What a search for a run found.
+/// What a search without automata found.
 #[inline(always)]
 fn sought_of(next: NextRun) -> Sought
     ensures { result ≡ sought_of next }
@@ -368,19 +368,52 @@ impl Regex {
         Ok(found)
     }
 
-    /// The next match, if the only pattern is a run of a class. Otherwise it returns where a search has to begin.
-    #[inline(always)]
-    fn sought_run(&self, haystack: &[u8], from: usize) -> Sought
+    /// The next match, if it is found without automata. Otherwise it returns where a search has to begin.
+    fn sought_directly(&self, cache: &mut Cache, haystack: &[u8], from: usize) -> Sought
+        requires own { IsCacheOf self.now cache.old }
         requires within { from ≤ length haystack.now }
         requires valid { (config_by self.now).utf8 ≡ true → IsValidText haystack.now }
+        ensures own { IsCacheOf self.now cache.new }
         ensures sought { IsSought (config_by self.now) self.now.texts haystack.now from result }
         ensures preferred { self.now.loops ≡ true → HasSoughtSpan (config_by self.now) self.now.texts haystack.now from result }
     {
         see_bytes(haystack);
-        let Some(run) = self.run() else {
-            return Sought::From(from);
+        let (way, starts) = self.way();
+        sought_of(way.next(starts, &mut cache.effort, haystack, from))
+    }
+
+    /// A search without automata, as far as one is known.
+    #[inline(never)]
+    fn search_directly(
+        &self,
+        alloc: Global,
+        cache: &mut Cache,
+        haystack: &[u8],
+        from: usize,
+    ) -> Result<Option<FoundMatch>, SearchError>
+        requires own { IsCacheOf self.now cache.old }
+        requires within { from ≤ length haystack.now }
+        requires valid { (config_by self.now).utf8 ≡ true → IsValidText haystack.now }
+        ensures own { IsCacheOf self.now cache.new }
+        ensures found { IfOk result (HasFoundStart (config_by self.now) self.now.texts haystack.now from) }
+        ensures preferred { self.now.loops ≡ true → IfOk result (HasFoundSpan (config_by self.now) self.now.texts haystack.now from) }
+        ensures refused { IfErr result (IsSearchError (config_by self.now) haystack.now) }
+    {
+        let start = match self.sought_directly(cache, haystack, from) {
+            Sought::Found(found) => return Ok(Some(found)),
+            Sought::Missing => return Ok(None),
+            Sought::From(start) => start,
         };
-        sought_of(run.next(haystack, from))
+        if !cache.effort.pays() {
+            return match self.search_resting(alloc, cache, haystack, start) {
+                Ok(found) => Ok(found),
+                Err(e) => Err(e),
+            };
+        }
+        match self.search_by_automata(alloc, cache, haystack, start) {
+            Ok(found) => Ok(found),
+            Err(e) => Err(e),
+        }
     }
 
     /// A search of a haystack that is UTF-8 if the options require it, which [`check`](Regex::check) tests. It is
@@ -400,16 +433,16 @@ impl Regex {
         ensures preferred { self.now.loops ≡ true → IfOk result (HasFoundSpan (config_by self.now) self.now.texts haystack.now from) }
         ensures refused { IfErr result (IsSearchError (config_by self.now) haystack.now) }
     {
-        let start = match self.sought_run(haystack, from) {
-            Sought::Found(found) => return Ok(Some(found)),
-            Sought::Missing => return Ok(None),
-            Sought::From(start) => start,
-        };
-        let found = match self.search_by_automata(alloc, cache, haystack, start) {
-            Ok(found) => found,
-            Err(e) => return Err(e),
-        };
-        Ok(found)
+        if self.needs_automata() {
+            return match self.search_by_automata(alloc, cache, haystack, from) {
+                Ok(found) => Ok(found),
+                Err(e) => Err(e),
+            };
+        }
+        match self.search_directly(alloc, cache, haystack, from) {
+            Ok(found) => Ok(found),
+            Err(e) => Err(e),
+        }
     }
 
     /// The leftmost match from an offset on, and of several that start there the preferred one. Look-around assertions see what precedes

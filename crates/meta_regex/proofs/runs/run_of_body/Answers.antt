@@ -1,4 +1,4 @@
-use Rattle.std.proofs.Common.{Bool, List, ap, arith}
+use Rattle.std.proofs.Common.{Bool, List, ap}
 use Rattle.search_core.specs.ByteSets.{has}
 use Rattle.meta_regex.proofs.FirstByteLemmas.{first_bytes_of}
 use Rattle.meta_regex.proofs.RunLemmas.{members_by}
@@ -11,5 +11,4 @@ returns-clause-rounds c = record {
   starts = λ b low. ap (λ (s : List Bool). has s b) c.new.ensures ∙ c.flags_of.ensures b low;
   members = members_by c.members_of-members.result c.args.body.now c.members_of-members.ensures;
   others = λ b low. ap (λ (s : List Bool). has s b) c.new-2.ensures ∙ c.flags_of_others.ensures b low;
-  some = omega (arith, c.if-least-eq0.false);
 }

@@ -1,13 +1,11 @@
-use Rattle.std.proofs.Common.{List, ℕ, map, refl, string_bytes, subst, sym}
-use Rattle.std.specs.Prelude.{IfSome}
+use Rattle.std.proofs.Common.{List, ℕ, refl, subst, sym}
 use Rattle.hir_core.specs.Tree.{Tree, alternation}
 use Rattle.search_types.specs.declared.match_kind.MatchKind.TheVariants.{LeftmostFirst}
 use Rattle.pattern_search.specs.Texts.{AllMean}
 use Rattle.meta_regex.specs.Options.{config_of}
 use Rattle.meta_regex.specs.Regexes.{AreReportedOf}
-use Rattle.meta_regex.specs.Runs.{IsRunOfTrees}
 use Rattle.meta_regex.specs.Starts.{AreTreesOf, DescribesStarts}
-use Rattle.meta_regex.proofs.RunAnswerLemmas.{run_of_texts}
+use Rattle.meta_regex.specs.Ways.{IsWayOf}
 use Rattle.meta_regex.proofs.compiled.Regex.new.Goals as goal
 
 pub invariant_of-result : goal.invariant_of-result
@@ -20,11 +18,13 @@ invariant_of-result c = (
         c.in-Ok.ensures.trees.mean;
     described = subst (λ (xs : List Tree). DescribesStarts c.of-starts.result (alternation xs)) c.deref-2.ensures.value c.of-starts.ensures;
   },
-  run_of_texts (config_of c.args.options.now) (map string_bytes c.in-Ok-owned.copies.items) c.in-Ok.built.loops c.in-Ok.built.trees.items
-      (subst (λ (ts : List (List ℕ)). AreTreesOf (config_of c.args.options.now) ts c.in-Ok.built.loops c.in-Ok.built.trees.items)
-      (sym c.in-Ok-owned.ensures) c.in-Ok.ensures.trees)
-      c.run_of_only-run.result
-      (subst (λ (xs : List Tree). IfSome c.run_of_only-run.result (λ r. IsRunOfTrees r xs)) c.deref-3.ensures.value c.run_of_only-run.ensures),
+  record {
+    trees = c.in-Ok.built.trees.items;
+    searched = subst (λ (ts : List (List ℕ)). AreTreesOf (config_of c.args.options.now) ts c.in-Ok.built.loops c.in-Ok.built.trees.items)
+        (sym c.in-Ok-owned.ensures) c.in-Ok.ensures.trees;
+    described = subst (λ (xs : List Tree). DescribesStarts c.of-starts.result (alternation xs)) c.deref-2.ensures.value c.of-starts.ensures;
+    found_so = subst (λ (xs : List Tree). IsWayOf c.of-way.result xs) c.deref-3.ensures.value c.of-way.ensures;
+  },
 )
 
 pub returns-clause-made : goal.returns-clause-made
