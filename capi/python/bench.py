@@ -5,7 +5,7 @@
 
 It takes the package that is installed, or else the one next to this file, and says whether that is the extension. Both engines search in
 turn, and of each one the least processor time counts, since other programs only ever add to it. Both must find the same. With --ratios
-one table has the ratios alone, for bytes and for str, as in README.md.
+one table has the ratios alone, for bytes and for str, as in README.md, and the rows that miss the goals of the package follow.
 """
 
 import argparse
@@ -35,6 +35,8 @@ GROUPS = [("log", r"([0-9]{4})-([0-9]{2})-([0-9]{2})"), ("log", r"user=([0-9]+) 
 CALLS = [("findall", "log", "[0-9]+", ()), ("findall", "log", r"user=([0-9]+) id=([0-9a-f]+)", ()), ("sub", "log", r"([0-9]{4})-([0-9]{2})", (r"\2/\1",)),
          ("sub", "prose", "[A-Z]", ("-",)), ("split", "prose", r"\W+", ())]
 SHORT_CALLS, SHORT_ROUNDS = 2000, 150
+# At most so many times as much time as re.
+GOALS = {"search": 1.0, "finditer": 0.35, "groups": 0.5}
 clock = time.process_time
 
 
@@ -116,6 +118,7 @@ class Table:
 
     def __init__(self, only_ratios):
         self.only_ratios = only_ratios
+        self.missed = []
         print("| Call | Input | Pattern | `bytes` | `str` |\n|---|---|---|---|---|" if only_ratios else
               "| Call | Input | Pattern | Haystack | re | hanneddois | / re |\n|---|---|---|---|---|---|---|")
 
@@ -127,6 +130,8 @@ class Table:
             least = compare(f"{call} {pattern}", measure, theirs, ours, haystack, rounds)
             unit = "ns" if measure is time_calls else "ms"
             ratios.append(f"{least[1] / least[0]:.2f}")
+            if least[1] / least[0] > GOALS.get(call, float("inf")):
+                self.missed.append(f"{call} {pattern} over {type(haystack).__name__}: {ratios[-1]}")
             if not self.only_ratios:
                 self.row(*cells, type(haystack).__name__, f"{least[0]:.0f} {unit}", f"{least[1]:.0f} {unit}", ratios[-1])
         if self.only_ratios:
@@ -155,6 +160,8 @@ def main():
     for method, name, pattern, others in CALLS:
         table.add(method, name, pattern, time_call, method, others, contents[name], options.rounds)
     print(f"\nLoad at the end {os.getloadavg()[0]:.0f}")
+    if options.ratios:
+        print("Above the goals", GOALS, *(table.missed or ["none"]), sep="\n    ")
 
 
 main()

@@ -246,18 +246,65 @@ static inline uint64_t word_at(const uint8_t *bytes)
     return word;
 }
 
+typedef int8_t Block __attribute__((vector_size(16)));
+/* The sums of so many blocks of zeros and ones fit into the bytes of half a block. */
+#define MOST_BLOCKS 127
+
+/* How many bytes of these blocks are in a character but not its first. Only such a byte is below -64 as a signed one. */
+static inline size_t count_inner_of_blocks(const uint8_t *bytes, size_t blocks)
+{
+    const uint64_t even = 0x00ff00ff00ff00ffu;
+    Block block, sums = {0};
+    uint64_t halves[2];
+    for (size_t i = 0; i < blocks; i++) {
+        memcpy(&block, bytes + i * sizeof block, sizeof block);
+        sums -= block < -64;
+    }
+    memcpy(halves, &sums, sizeof halves);
+    uint64_t word = halves[0] + halves[1];
+    return (size_t)((((word & even) + (word >> 8 & even)) * 0x0001000100010001u) >> 48);
+}
+
 /* How many characters start between two offsets. The last bytes are read as the top ones of a word, as machines with a library store them. */
 static inline size_t count_between(const Haystack *haystack, size_t start, size_t end)
 {
     const uint8_t *bytes = haystack->bytes;
     size_t count = end - start;
-    for (; end - start >= 8; start += 8)
+    while (end - start >= sizeof(Block)) {
+        size_t blocks = (end - start) / sizeof(Block);
+        blocks = blocks < MOST_BLOCKS ? blocks : MOST_BLOCKS;
+        count -= count_inner_of_blocks(bytes + start, blocks);
+        start += blocks * sizeof(Block);
+    }
+    if (end - start >= 8) {
         count -= count_inner(word_at(bytes + start));
+        start += 8;
+    }
     if (start < end && end >= 8)
         return count - count_inner(word_at(bytes + end - 8) >> 8 * (8 - (end - start)));
     for (; start < end; start++)
         count -= is_inside_character(haystack, start);
     return count;
+}
+
+/* The top bits of the bytes between two offsets, which are at most 16 bytes apart. A word ends where the last byte does, so at least 8 bytes
+   precede it. */
+static inline uint64_t top_bits_between(const Haystack *haystack, size_t start, size_t end)
+{
+    const uint8_t *bytes = haystack->bytes;
+    size_t count = end - start;
+    uint64_t last = word_at(bytes + end - 8);
+    if (count < 8)
+        last = count ? last >> 8 * (8 - count) : 0;
+    else
+        last |= word_at(bytes + start);
+    return last & 0x8080808080808080u;
+}
+
+/* Whether the bytes between two offsets are few, and ASCII. */
+static inline int is_short_ascii(const Haystack *haystack, size_t start, size_t end)
+{
+    return end >= 8 && end - start <= 16 && top_bits_between(haystack, start, end) == 0;
 }
 
 /* Moves to an offset at or after the position, and returns its number of characters. */
@@ -833,13 +880,13 @@ static inline hanneddois_status find_once(const Matcher *self, Search *search, c
     return hanneddois_captures(&search->handle, haystack->bytes, haystack->length, query->from, match, query->slots, query->width, error);
 }
 
-/* The next match that counts: in a str, an empty one inside a character doesn't. */
+/* The next match that counts: in a str, an empty one inside a character doesn't. No other match starts there. */
 static inline hanneddois_status find_from(const Matcher *self, Search *search, const Haystack *haystack, Query query, hanneddois_match *match,
                                           hanneddois_error *error)
 {
     for (;;) {
         hanneddois_status status = find_once(self, search, haystack, &query, match, error);
-        if (status != HANNEDDOIS_OK || !haystack->is_utf8 || !is_inside_character(haystack, match->start))
+        if (status != HANNEDDOIS_OK || match->start != match->end || !haystack->is_utf8 || !is_inside_character(haystack, match->start))
             return status;
         query.from = match->start + 1;
     }
@@ -1002,6 +1049,8 @@ typedef struct {
     PyObject *regex;
     /* The regex that finds the groups, if it is another one than the match is of, or NULL. */
     PyObject *finder;
+    /* The bytes of the part between two offsets of the match are found from here on, as in `origin_of`. NULL if they aren't known. */
+    const char *origin;
     /* Start and end of each group from 1 on, as the caller counts, and -1 for one that took no part. NULL until somebody asks for one. */
     Py_ssize_t *offsets;
     Py_ssize_t few[2 * FEW_GROUPS];
@@ -1025,8 +1074,22 @@ static inline int is_plain(PyObject *haystack)
     return PyBytes_CheckExact(haystack) || PyUnicode_CheckExact(haystack);
 }
 
+/* The bytes of a haystack that is of exactly that type, so that they never change, or the UTF-8 of a str that isn't ASCII; otherwise NULL. */
+static inline const char *first_origin_of(const Haystack *haystack)
+{
+    return haystack->has_characters || PyBytes_CheckExact(haystack->object) ? (const char *)haystack->bytes : NULL;
+}
+
+/* From where on offsets count bytes in a match, or NULL: its characters are as far from there as they are from the start of the haystack,
+   unless one has several bytes. */
+static inline const char *origin_of(const Haystack *haystack, const hanneddois_match *row, size_t start, size_t end)
+{
+    const char *first = first_origin_of(haystack);
+    return first && row->end - row->start == end - start ? first + (row->start - start) : NULL;
+}
+
 static inline void fill_match(Match *match, Matcher *regex, PyObject *haystack, const hanneddois_match *row, size_t start, size_t end,
-                              const Place *place)
+                              const Place *place, const char *origin)
 {
     match->pattern = (Py_ssize_t)row->pattern;
     match->start = (Py_ssize_t)start;
@@ -1036,18 +1099,26 @@ static inline void fill_match(Match *match, Matcher *regex, PyObject *haystack, 
     match->haystack = new_reference(haystack);
     match->regex = new_reference((PyObject *)regex);
     match->finder = NULL;
+    match->origin = origin;
     match->offsets = NULL;
 }
 
-static inline Match *make_match(Matcher *regex, PyObject *haystack, const hanneddois_match *row, size_t start, size_t end, const Place *place)
+static inline Match *make_match(Matcher *regex, PyObject *haystack, const hanneddois_match *row, size_t start, size_t end, const Place *place,
+                                const char *origin)
 {
     Match *match = free_matches ? reuse_match() : PyObject_GC_New(Match, match_type);
     if (!match)
         return NULL;
-    fill_match(match, regex, haystack, row, start, end, place);
+    fill_match(match, regex, haystack, row, start, end, place, origin);
     if (!is_plain(haystack))
         PyObject_GC_Track(match);
     return match;
+}
+
+/* A match of a haystack between two offsets, as the caller counts. */
+static inline Match *match_of(Matcher *regex, const Haystack *haystack, const hanneddois_match *row, size_t start, size_t end, const Place *place)
+{
+    return make_match(regex, haystack->object, row, start, end, place, origin_of(haystack, row, start, end));
 }
 
 static PyObject *match_new(PyTypeObject *type, PyObject *Py_UNUSED(args), PyObject *Py_UNUSED(kwargs))
@@ -1125,7 +1196,10 @@ static inline PyObject *part_of_bytes(const Haystack *haystack, size_t start, si
 {
     const char *bytes = (const char *)haystack->bytes + start;
     Py_ssize_t length = (Py_ssize_t)(end - start);
-    return haystack->is_str ? PyUnicode_FromStringAndSize(bytes, length) : PyBytes_FromStringAndSize(bytes, length);
+    if (!haystack->is_str)
+        return PyBytes_FromStringAndSize(bytes, length);
+    /* Cutting an ASCII str costs less than decoding, and decoding less than cutting another one. */
+    return haystack->has_characters ? PyUnicode_FromStringAndSize(bytes, length) : PyUnicode_Substring(haystack->object, (Py_ssize_t)start, (Py_ssize_t)end);
 }
 
 /* The part of a str or of a buffer between two offsets, as it is now: a buffer may have been written to, and may be shorter. */
@@ -1144,18 +1218,15 @@ static __attribute__((noinline)) PyObject *part_of_other(PyObject *object, Py_ss
     return part;
 }
 
-/* The bytes of a haystack that is of exactly that type, so that they never change, or NULL. */
-static inline const char *constant_bytes_of(PyObject *object)
+/* The part of a match between two offsets. */
+static inline PyObject *part_of(const Match *match, Py_ssize_t start, Py_ssize_t end)
 {
-    return PyBytes_CheckExact(object) ? PyBytes_AsString(object) : NULL;
-}
-
-/* The part of a haystack between two offsets, with its `constant_bytes_of`. */
-static inline PyObject *part_of(PyObject *object, const char *bytes, Py_ssize_t start, Py_ssize_t end)
-{
-    if (bytes)
-        return PyBytes_FromStringAndSize(bytes + start, end - start);
-    return PyUnicode_CheckExact(object) ? PyUnicode_Substring(object, start, end) : part_of_other(object, start, end);
+    PyObject *haystack = match->haystack;
+    if (PyBytes_CheckExact(haystack))
+        return PyBytes_FromStringAndSize(match->origin + start, end - start);
+    if (match->origin)
+        return PyUnicode_FromStringAndSize(match->origin + start, end - start);
+    return PyUnicode_CheckExact(haystack) ? PyUnicode_Substring(haystack, start, end) : part_of_other(haystack, start, end);
 }
 
 /* Counts the characters before the offsets of all groups but the whole match. Groups are inside of their match. */
@@ -1176,12 +1247,11 @@ static void count_offsets(const Match *match, const Haystack *haystack, const si
     }
 }
 
-/* Those of a match in which each character is one byte. */
-static void move_offsets(const Match *match, const size_t *slots, Py_ssize_t count, Py_ssize_t *offsets)
+/* Those of a match in which each character is one byte, and which starts so many characters earlier than bytes. */
+static inline void move_offsets(const size_t *slots, size_t earlier, Py_ssize_t count, Py_ssize_t *offsets)
 {
-    Py_ssize_t more = match->place.start - match->start;
     for (Py_ssize_t i = 0; i < 2 * (count - 1); i++)
-        offsets[i] = slots[2 + i] == HANNEDDOIS_NO_OFFSET ? -1 : (Py_ssize_t)slots[2 + i] - more;
+        offsets[i] = slots[2 + i] == HANNEDDOIS_NO_OFFSET ? -1 : (Py_ssize_t)(slots[2 + i] - earlier);
 }
 
 /* The place for the offsets of all groups but the whole match, or NULL with an error. */
@@ -1211,7 +1281,7 @@ static inline int keep_offsets(Match *match, const Haystack *haystack, const siz
     if (!haystack->has_characters)
         copy_offsets(offsets, slots, count);
     else if (slots[1] - slots[0] == (size_t)(match->end - match->start))
-        move_offsets(match, slots, count, offsets);
+        move_offsets(slots, (size_t)(match->place.start - match->start), count, offsets);
     else
         count_offsets(match, haystack, slots, count, offsets);
     return 0;
@@ -1316,8 +1386,7 @@ static PyObject *group_of(PyObject *self, PyObject *group)
     Py_ssize_t start, end;
     if (find_span(self, group, &start, &end) < 0)
         return NULL;
-    PyObject *haystack = ((Match *)self)->haystack;
-    return start < 0 ? new_reference(Py_None) : part_of(haystack, constant_bytes_of(haystack), start, end);
+    return start < 0 ? new_reference(Py_None) : part_of((Match *)self, start, end);
 }
 
 static PyObject *match_group(PyObject *self, PyObject *const *args, Py_ssize_t nargs)
@@ -1334,9 +1403,9 @@ static PyObject *match_group(PyObject *self, PyObject *const *args, Py_ssize_t n
 }
 
 /* The part between two offsets, as `part_of`, or what stands for a group that took no part. */
-static inline PyObject *part_or(PyObject *haystack, const char *bytes, const Py_ssize_t *pair, PyObject *otherwise)
+static inline PyObject *part_or(const Match *match, const Py_ssize_t *pair, PyObject *otherwise)
 {
-    return pair[0] < 0 ? new_reference(otherwise) : part_of(haystack, bytes, pair[0], pair[1]);
+    return pair[0] < 0 ? new_reference(otherwise) : part_of(match, pair[0], pair[1]);
 }
 
 /* The only parameter of groups and groupdict, if there is any argument. */
@@ -1366,10 +1435,9 @@ _Static_assert(FEW_GROUPS == 4, "so many objects are passed to PyTuple_Pack");
 /* The tuple of 1 to FEW_GROUPS groups. Packing a few objects costs less than setting each. PyTuple_Pack reads as many arguments as its first one says. */
 static inline PyObject *few_groups_of(const Match *match, const Py_ssize_t *offsets, Py_ssize_t count, PyObject *otherwise)
 {
-    PyObject *parts[FEW_GROUPS] = {NULL}, *haystack = match->haystack;
-    const char *bytes = constant_bytes_of(haystack);
+    PyObject *parts[FEW_GROUPS] = {NULL};
     for (Py_ssize_t i = 0; i < count; i++) {
-        parts[i] = part_or(haystack, bytes, offsets + 2 * i, otherwise);
+        parts[i] = part_or(match, offsets + 2 * i, otherwise);
         if (parts[i])
             continue;
         while (i > 0)
@@ -1385,9 +1453,8 @@ static inline PyObject *few_groups_of(const Match *match, const Py_ssize_t *offs
 static __attribute__((noinline)) PyObject *many_groups_of(const Match *match, const Py_ssize_t *offsets, Py_ssize_t count, PyObject *otherwise)
 {
     PyObject *parts = PyTuple_New(count);
-    const char *bytes = constant_bytes_of(match->haystack);
     for (Py_ssize_t i = 0; parts && i < count; i++) {
-        PyObject *part = part_or(match->haystack, bytes, offsets + 2 * i, otherwise);
+        PyObject *part = part_or(match, offsets + 2 * i, otherwise);
         if (!part || PyTuple_SetItem(parts, i, part) < 0)
             Py_CLEAR(parts);
     }
@@ -1419,12 +1486,11 @@ static PyObject *match_groupdict(PyObject *self, PyObject *const *args, Py_ssize
     PyObject *names = PyTuple_GetItem(((Matcher *)match->regex)->names, match->pattern);
     const Py_ssize_t *offsets = count > 1 ? offsets_of(match, count) : match->few;
     PyObject *parts = offsets ? PyDict_New() : NULL;
-    const char *bytes = constant_bytes_of(match->haystack);
     for (Py_ssize_t i = 1; parts && i < count; i++) {
         PyObject *name = PyTuple_GetItem(names, i);
         if (name == Py_None)
             continue;
-        PyObject *part = part_or(match->haystack, bytes, offsets + 2 * (i - 1), otherwise);
+        PyObject *part = part_or(match, offsets + 2 * (i - 1), otherwise);
         if (!part || PyDict_SetItem(parts, name, part) < 0)
             Py_CLEAR(parts);
         Py_XDECREF(part);
@@ -1558,7 +1624,7 @@ static inline PyObject *find_match(Matcher *self, const Haystack *haystack, Rang
     end_search(&search);
     if (status == HANNEDDOIS_OK) {
         size_t start = move_to(&range->start, haystack, match.start);
-        return (PyObject *)make_match(self, haystack->object, &match, start, move_to(&range->start, haystack, match.end), &range->place);
+        return (PyObject *)match_of(self, haystack, &match, start, move_to(&range->start, haystack, match.end), &range->place);
     }
     if (status == HANNEDDOIS_NONE)
         return new_reference(Py_None);
@@ -1623,7 +1689,7 @@ static inline PyObject *search_few(Matcher *self, PyObject *object, const uint8_
     hanneddois_status status = hanneddois_find_at(idle_handle(self), bytes, (size_t)length, 0, &match, &error);
     if (status == HANNEDDOIS_OK) {
         Place place = {0, 0, length, 0, length};
-        return (PyObject *)make_match(self, object, &match, match.start, match.end, &place);
+        return (PyObject *)make_match(self, object, &match, match.start, match.end, &place, PyBytes_CheckExact(object) ? (const char *)bytes : NULL);
     }
     if (status == HANNEDDOIS_NONE)
         return new_reference(Py_None);
@@ -1708,8 +1774,8 @@ static PyObject *match_at(Matcher *self, Haystack *haystack, Range *range, int i
         return new_reference(Py_None);
     size_t first = range->start.character;
     range->place.back = (Py_ssize_t)back;
-    Match *made = make_match(self, haystack->object, &row, haystack->has_characters ? first : start, move_to(&range->start, haystack, row.end),
-                             &range->place);
+    Match *made = match_of(self, haystack, &row, haystack->has_characters ? first : start, move_to(&range->start, haystack, row.end),
+                           &range->place);
     if (made)
         made->finder = new_reference((PyObject *)finder);
     return (PyObject *)made;
@@ -1840,8 +1906,10 @@ typedef struct {
     Place place;
     /* How many matches of the regex were asked for their groups before these were found. */
     size_t asked_before;
-    /* Whether offsets count bytes, and matches aren't tracked. */
+    /* Whether matches aren't tracked. */
     int is_quick;
+    /* The bytes from which on offsets count in a match, or NULL, as in `origin_of`, if each character is one byte. */
+    const char *origin;
 } Iterator;
 
 /* Before more matches are found: they are found with their groups, if the groups of most of the last ones were asked for. */
@@ -1889,12 +1957,50 @@ static __attribute__((noinline)) PyObject *next_match(Iterator *self)
         return NULL;
     const hanneddois_match *row = &scan->rows[scan->next++];
     size_t start = move_to(&self->position, &scan->haystack, row->start), end = move_to(&self->position, &scan->haystack, row->end);
-    return add_groups(scan, make_match(scan->matcher, scan->haystack.object, row, start, end, &self->place));
+    return add_groups(scan, match_of(scan->matcher, &scan->haystack, row, start, end, &self->place));
 }
 
 static __attribute__((noinline)) PyObject *add_many_groups(const Scan *scan, Match *match)
 {
     return add_groups(scan, match);
+}
+
+/* Makes the match of the next row. It starts so many characters earlier than bytes, and each of its characters is one byte. */
+static inline PyObject *quick_match(Iterator *self, size_t earlier)
+{
+    Scan *scan = &self->scan;
+    const hanneddois_match *row = &scan->rows[scan->next++];
+    self->position = (Position){row->end, row->end - earlier};
+    Match *match = reuse_match();
+    fill_match(match, scan->matcher, scan->haystack.object, row, row->start - earlier, row->end - earlier, &self->place, self->origin + earlier);
+    if (!scan->width)
+        return (PyObject *)match;
+    Py_ssize_t count = group_count(scan->matcher, match->pattern);
+    if (count - 1 > FEW_GROUPS)
+        return add_many_groups(scan, match);
+    if (count > 1)
+        move_offsets(slots_of(scan), earlier, count, match->offsets = match->few);
+    return (PyObject *)match;
+}
+
+/* The next match of a str that isn't ASCII, if there is more before it than a few characters that are. */
+static __attribute__((noinline)) PyObject *next_far(Iterator *self)
+{
+    const hanneddois_match *row = &self->scan.rows[self->scan.next];
+    const Position *position = &self->position;
+    if (!is_short_ascii(&self->scan.haystack, row->start, row->end))
+        return next_match(self);
+    return quick_match(self, row->start - position->character - count_between(&self->scan.haystack, position->byte, row->start));
+}
+
+/* The next match of a str that isn't ASCII. Most matches are, and what is between two of them. */
+static __attribute__((noinline)) PyObject *next_of_characters(Iterator *self)
+{
+    const hanneddois_match *row = &self->scan.rows[self->scan.next];
+    const Position *position = &self->position;
+    if (!is_short_ascii(&self->scan.haystack, position->byte, row->end))
+        return next_far(self);
+    return quick_match(self, position->byte - position->character);
 }
 
 /* Most matches are made by copying alone. Other calls are at the end, so that no registers are saved for them. */
@@ -1904,9 +2010,11 @@ static PyObject *iterator_next(PyObject *object)
     Scan *scan = &self->scan;
     if (scan->next == scan->count || !self->is_quick || !free_matches)
         return next_match(self);
+    if (scan->haystack.has_characters)
+        return next_of_characters(self);
     const hanneddois_match *row = &scan->rows[scan->next++];
     Match *match = reuse_match();
-    fill_match(match, scan->matcher, scan->haystack.object, row, row->start, row->end, &self->place);
+    fill_match(match, scan->matcher, scan->haystack.object, row, row->start, row->end, &self->place, self->origin);
     if (!scan->width)
         return (PyObject *)match;
     Py_ssize_t count = group_count(scan->matcher, match->pattern);
@@ -1949,7 +2057,8 @@ static PyObject *iterate(const char *name, PyObject *matcher, PyObject *const *a
     self->position = range.start;
     self->place = range.place;
     self->asked_before = ((Matcher *)matcher)->asked;
-    self->is_quick = !scan.haystack.has_characters && is_plain(scan.haystack.object);
+    self->is_quick = is_plain(scan.haystack.object);
+    self->origin = first_origin_of(&scan.haystack);
     PyObject_GC_Track(self);
     return (PyObject *)self;
 }
@@ -2205,7 +2314,7 @@ static int add_result(Replacement *self, const hanneddois_match *row)
     size_t start = move_to(&self->range.start, haystack, row->start);
     Position position = self->range.start;
     Match *match =
-        make_match(self->scan.matcher, haystack->object, row, start, move_to(&position, haystack, row->end), &self->range.place);
+        match_of(self->scan.matcher, haystack, row, start, move_to(&position, haystack, row->end), &self->range.place);
     PyObject *result = match ? PyObject_CallFunctionObjArgs(self->by, match, NULL) : NULL;
     int status = !result ? -1 : result == Py_None ? 0 : add_object(&self->output, result, haystack->is_str);
     Py_XDECREF(match);

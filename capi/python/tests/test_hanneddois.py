@@ -156,6 +156,26 @@ class Searches(unittest.TestCase):
             self.assertEqual(regex.search(haystack).regs, wanted[0])
             self.assertEqual(regex.match(haystack, wanted[-1][0][0]).regs, wanted[-1])
 
+    def test_distances_of_characters(self):
+        # What is before a match and in it may be ASCII or not, and short or long.
+        pattern = r"([a-zé]+)(-)?([0-9]*)"
+        ours, theirs = hanneddois.compile(pattern), re.compile(pattern)
+
+        def read(match):
+            return match.regs, match.group(), match.groups()
+
+        for gap in (*range(36), 127, 255, 2032, 2048, 4100):
+            for space in (" ", "€", "  😀"):
+                for word in ("a", "é-1", "abcdefgh-123", "abcdefgéh-1234567890", "a" * 17):
+                    for first in ("ü", ".........", ""):
+                        # Once groups were asked for, an iterator finds them ahead.
+                        haystack = first + (space * gap + word) * 4 + "."
+                        with self.subTest(gap=gap, space=space, word=word, first=first):
+                            self.assertEqual([read(it) for it in ours.finditer(haystack)], [read(it) for it in theirs.finditer(haystack)])
+                            self.assertEqual([it.span() for it in ours.finditer(haystack)], [it.span() for it in theirs.finditer(haystack)])
+                            self.assertEqual(ours.findall(haystack), theirs.findall(haystack))
+                            self.assertEqual(ours.split(haystack), theirs.split(haystack))
+
     def test_str_from_each_offset(self):
         for pattern in (r"\w", r"", r"\b", r"[0-9]+", r"$", r"^"):
             regex, theirs = hanneddois.compile(pattern), re.compile(pattern)
