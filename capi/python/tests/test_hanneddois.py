@@ -13,6 +13,7 @@ import mmap
 import os
 import pathlib
 import pickle
+import random
 import re
 import socket
 import sys
@@ -46,7 +47,38 @@ def spans(matches):
     return [match.span() for match in matches]
 
 
+def random_sequence(pick):
+    """Returns a pattern of literals and greedy rounds of classes, one after the other, some of them in groups."""
+    parts = []
+    for _ in range(pick.randint(1, 5)):
+        part = pick.choice(["a", "ab", "_", " ", "é", "[ab]", "[a-c]", "[^b]", "[b-é]", r"\w", r"\s", r"\d", "."])
+        if len(part) > 1 and part != "ab":
+            part += pick.choice(["", "+", "+", "*", "?", "{2}", "{1,2}", "{2,}"])
+        parts.append(f"({part})" if pick.random() < 0.3 else part)
+    if pick.random() < 0.2:
+        parts.append(pick.choice(["(?:ab|a)", "(b|_a|é)", "(?:a|ab|b )"]))
+    pattern = "".join(parts)
+    return f"({pattern})" if pick.random() < 0.1 else pattern
+
+
 class Searches(unittest.TestCase):
+    def test_random_sequences_as_re(self):
+        pick = random.Random(7)
+        for _ in range(1500 if hanneddois.backend == "extension" else 200):
+            pattern = random_sequence(pick)
+            theirs, regex = re.compile(pattern), hanneddois.compile(pattern)
+            if theirs.match(""):
+                continue  # re looks for another match where one is empty
+            in_bytes = pattern.isascii() and hanneddois.compile(pattern, hanneddois.NO_UNICODE)
+            for alphabet in ("ab", "ab_ ", "abc1 _é\n", "a1ü€ b"):
+                haystack = "".join(pick.choices(alphabet, k=pick.randint(0, 30))) * pick.choice([1, 1, 1, 60])
+                with self.subTest(pattern=pattern, haystack=haystack):
+                    self.assertEqual(spans(regex.finditer(haystack)), spans(theirs.finditer(haystack)))
+                    if in_bytes:
+                        self.assertEqual(spans(in_bytes.finditer(haystack.encode())), spans(re.finditer(pattern.encode(), haystack.encode())))
+                    found, wanted = regex.search(haystack, 3), theirs.search(haystack, 3)
+                    self.assertEqual(found and found.regs, wanted and wanted.regs)
+
     def test_lists_as_re(self):
         # A pattern whose match is empty where it might not be is left out: re looks for another match there.
         for pattern in PATTERNS + [r"a*", r"\d*", r"(?:ab)*", r"x*$", r"^a*", r"(?:a|b)*", r"()a|b", r"(a)|(b)|"]:

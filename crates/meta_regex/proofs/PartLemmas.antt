@@ -1,19 +1,20 @@
 -- What is read of parts is the preferred end of their trees, or that these have none.
 use Rattle.std.proofs.Common.{◌≡◌, ℕ, zero, suc, ◌+◌, ◌-◌, ◌<◌, ◌≤◌, ◌⊎◌, inl, inr, Bool, true, false, List, [], ◌∷◌, ◌++◌, length, All}
+use Rattle.std.proofs.Common.{Global, Vec}
 use Rattle.std.proofs.Common.{Some, None, Option, refl, sym, ap, subst, ◌∙◌, arith, get_or, if◌then◌else◌}
 use Rattle.std.specs.List.{flat_map}
 use Rattle.std.proofs.lemmas.Bool.{cases_lt}
-use Rattle.std.proofs.lemmas.Option.{slice_get-get_or}
+use Rattle.std.proofs.lemmas.Option.{none-some, slice_get-get_or}
 use Rattle.hir_core.specs.Tree.{Tree, literal, cat}
 use Rattle.hir_core.specs.Means.{Looks, stands}
 use Rattle.hir_core.specs.PreferredEnds.{Ends, Has, at_least, between, preferred_ends, repeated, up_to}
 use Rattle.hir_core.proofs.ForCallers.{Has-append}
 use Rattle.meta_regex.specs.Parts.{AreDecided, AreParts, AreRounds, HasEndsOf, HasNoEndAt, IsDecided, IsBounded, GoesNoFurther, AllowsMore, IsPart, IsStretch}
-use Rattle.meta_regex.specs.Parts.{ReadsPart}
+use Rattle.meta_regex.specs.Parts.{ReadsPart, first_end, any_text}
 use Rattle.meta_regex.specs.Runs.{PrefersEnd}
 use Rattle.meta_regex.specs.Sequences.{IsLastStart}
 use Rattle.meta_regex.specs.declared.parts.Part.{Part}
-use Rattle.meta_regex.specs.declared.parts.Part.TheVariants.{Literal, Rounds}
+use Rattle.meta_regex.specs.declared.parts.Part.TheVariants.{Literal, Rounds, OneOf}
 use Rattle.meta_regex.specs.declared.parts.Read.TheVariants.{To, Missing}
 use Rattle.meta_regex.specs.declared.runs.Run.{Run}
 use Rattle.meta_regex.proofs.RunLemmas.{Led, no_round, one_round, too_few}
@@ -159,19 +160,19 @@ module _ (x c y : Tree) (whole : HasEndsOf x (cat c y)) (h : List ℕ) (looks : 
   after = preferred_ends looks h y
 
   -- the preferred end of what follows is that of both
-  first_of_both : (low j : ℕ) (more : List ℕ) → Leads (preferred_ends looks h c i) low e → after e ≡ j ∷ more → Led (preferred_ends looks h x i) j
-  first_of_both low j more leads is = record {
-    others = more ++ flat_map after leads.others;
-    is = whole.same looks h i ∙ ap (λ (l : List ℕ). flat_map after l) leads.is
-        ∙ ap (λ (l : List ℕ). l ++ flat_map after leads.others) is;
+  first_of_both : (others : List ℕ) → preferred_ends looks h c i ≡ e ∷ others → (j : ℕ) (more : List ℕ) → after e ≡ j ∷ more →
+      Led (preferred_ends looks h x i) j
+  first_of_both others leads j more is = record {
+    others = more ++ flat_map after others;
+    is = whole.same looks h i ∙ ap (λ (l : List ℕ). flat_map after l) leads ∙ ap (λ (l : List ℕ). l ++ flat_map after others) is;
   }
 
   -- if what follows has no end, both have none
-  none_of_both : (low : ℕ) (leads : Leads (preferred_ends looks h c i) low e) → after e ≡ [] →
-      ((k : ℕ) → Has leads.others k → after k ≡ []) → preferred_ends looks h x i ≡ []
-  none_of_both low leads none others =
-      whole.same looks h i ∙ ap (λ (l : List ℕ). flat_map after l) leads.is
-      ∙ ap (λ (l : List ℕ). l ++ flat_map after leads.others) none ∙ none_of after leads.others others
+  none_of_both : (others : List ℕ) → preferred_ends looks h c i ≡ e ∷ others → after e ≡ [] → ((k : ℕ) → Has others k → after k ≡ []) →
+      preferred_ends looks h x i ≡ []
+  none_of_both others leads none all =
+      whole.same looks h i ∙ ap (λ (l : List ℕ). flat_map after l) leads ∙ ap (λ (l : List ℕ). l ++ flat_map after others) none
+      ∙ none_of after others all
 
   none_of_first : preferred_ends looks h c i ≡ [] → preferred_ends looks h x i ≡ []
   none_of_first none = whole.same looks h i ∙ ap (λ (l : List ℕ). flat_map after l) none
@@ -227,26 +228,61 @@ literal_none bytes c it h looks i here = it.same looks h i ∙ by_test (stands h
     by_test true is = cc
     by_test false is = refl
 
+-- one of several strings
+some_same : (a b : ℕ) → Some a ≡ Some b → a ≡ b
+some_same a b is = cc
+
+one_more_leads : (there : Bool) (j e : ℕ) (o : Option ℕ) (ends : List ℕ) → (o ≡ Some e → Led ends e) → (if there then Some j else o) ≡ Some e →
+    Led ((if there then j ∷ [] else []) ++ ends) e
+one_more_leads true j e o ends rest is = record { others = ends; is = ap (λ (n : ℕ). n ∷ ends) (some_same j e is) }
+one_more_leads false j e o ends rest is = rest is
+
+one_more_none : (there : Bool) (j : ℕ) (o : Option ℕ) (ends : List ℕ) → (o ≡ None → ends ≡ []) → (if there then Some j else o) ≡ None →
+    ((if there then j ∷ [] else []) ++ ends) ≡ []
+one_more_none true j o ends rest is = cc
+one_more_none false j o ends rest is = rest is
+
+one_of_leads : (texts : List (Vec ℕ Global)) (h : List ℕ) (looks : Looks) (i e : ℕ) → first_end texts h i ≡ Some e →
+    Led (preferred_ends looks h (any_text texts) i) e
+one_of_leads [] h looks i e is = absurd (none-some e is)
+one_of_leads (t ∷ texts) h looks i e is =
+    one_more_leads (stands h i t.items) (i + length t.items) e (first_end texts h i) (preferred_ends looks h (any_text texts) i)
+    (one_of_leads texts h looks i e) is
+
+one_of_none : (texts : List (Vec ℕ Global)) (h : List ℕ) (looks : Looks) (i : ℕ) → first_end texts h i ≡ None →
+    preferred_ends looks h (any_text texts) i ≡ []
+one_of_none [] h looks i is = refl
+one_of_none (t ∷ texts) h looks i is =
+    one_more_none (stands h i t.items) (i + length t.items) (first_end texts h i) (preferred_ends looks h (any_text texts) i)
+    (one_of_none texts h looks i) is
+
 -- what a part leads to
 record PartLeads (c y : Tree) (h : List ℕ) (i e : ℕ) (looks : Looks) : Type 0 where
-  low : ℕ
-  leads : Leads (preferred_ends looks h c i) low e
-  others : preferred_ends looks h y e ≡ [] → (k : ℕ) → Has leads.others k → preferred_ends looks h y k ≡ []
+  others : List ℕ
+  leads : preferred_ends looks h c i ≡ e ∷ others
+  none : preferred_ends looks h y e ≡ [] → (k : ℕ) → Has others k → preferred_ends looks h y k ≡ []
 
 part_leads : (p : Part) (ps : List Part) (c y : Tree) → IsPart p c → AreParts ps y → IsDecided p ps → (h : List ℕ) → All (λ b. b < 256) h →
     (i e : ℕ) → ReadsPart p h i (To e) → (looks : Looks) → PartLeads c y h i e looks
 unfolding literal_leads
 part_leads (Literal text) ps c y it are apart h bytes i e read looks = record {
-  low = i;
-  leads = literal_leads text.items c it h looks i e read.0 read.1;
-  others = λ none k none_other. elim none_other [ ];
+  others = [];
+  leads = (literal_leads text.items c it h looks i e read.0 read.1).is;
+  none = λ none k other. elim other [ ];
 }
+part_leads (OneOf texts) ps c y it are apart h bytes i e read looks =
+    let led = one_of_leads texts.items h looks i e read in
+    record {
+      others = led.others;
+      leads = it.same looks h i ∙ led.is;
+      none = λ none. absurd (cc (sym none ∙ (subst (λ (l : List Part). AreParts l y) apart are).same looks h e));
+    }
 part_leads (Rounds r most) ps c y it are apart h bytes i e read looks =
     let leads = rounds_lead r most c it h bytes looks i e read.0 read.1 i (omega arith) (inr refl) read.2 in
     record {
-      low = i + r.least;
-      leads = leads;
-      others = λ none k other.
+      others = leads.others;
+      leads = leads.is;
+      none = λ none k other.
           let so = leads.before k other in
           none_at r most ps y are h bytes looks c it i e read.0 none apart k so.0 so.1;
     }
@@ -254,6 +290,7 @@ part_leads (Rounds r most) ps c y it are apart h bytes i e read looks =
 part_none : (p : Part) (c : Tree) → IsPart p c → (h : List ℕ) → All (λ b. b < 256) h → (i e : ℕ) → ReadsPart p h i (Missing e) →
     (looks : Looks) → preferred_ends looks h c i ≡ []
 part_none (Literal text) c it h bytes i e read looks = literal_none text.items c it h looks i read
+part_none (OneOf texts) c it h bytes i e read looks = it.same looks h i ∙ one_of_none texts.items h looks i read
 part_none (Rounds r most) c it h bytes i e read looks =
     rounds_few r most c it h bytes looks i e read.0 read.1 i (omega arith) (inr refl) read.0.low read.2
 
@@ -269,10 +306,10 @@ module _ (p : Part) (ps : List Part) (x : Tree) (h : List ℕ) (bytes : All (λ 
         parts = so.parts.3;
         apart = so.apart.1;
         found = λ looks j more is.
-            let both = first_of_both so.rest c y whole h looks at e (lead looks).low j more (lead looks).leads is in
+            let both = first_of_both so.rest c y whole h looks at e (lead looks).others (lead looks).leads j more is in
             so.found looks j both.others both.is;
         none = λ looks none.
-            so.none looks (none_of_both so.rest c y whole h looks at e (lead looks).low (lead looks).leads none ((lead looks).others none));
+            so.none looks (none_of_both so.rest c y whole h looks at e (lead looks).others (lead looks).leads none ((lead looks).none none));
       }
 
   pub stands_nowhere : Stands (p ∷ ps) x h from at → (e : ℕ) → ReadsPart p h at (Missing e) → HasNoEndAt x h from
@@ -302,7 +339,7 @@ module _ (p : Part) (ps : List Part) (x : Tree) (parts : AreParts (p ∷ ps) x) 
     none = λ looks.
         let lead = part_leads p ps parts.0 parts.1 parts.2 parts.3 apart.0 h bytes start end read looks in
         let nothing_there = (none parts.1 parts.3 apart.1).none looks in
-        none_of_both x parts.0 parts.1 parts.4 h looks start end lead.low lead.leads nothing_there (lead.others nothing_there);
+        none_of_both x parts.0 parts.1 parts.4 h looks start end lead.others lead.leads nothing_there (lead.none nothing_there);
   }
 
   -- both are there
@@ -312,7 +349,7 @@ module _ (p : Part) (ps : List Part) (x : Tree) (parts : AreParts (p ∷ ps) x) 
       let both : (looks : Looks) → Led (preferred_ends looks h x start) to = λ looks.
       let lead = part_leads p ps parts.0 parts.1 parts.2 parts.3 apart.0 h bytes start end read looks in
       let rest = there parts.1 parts.3 apart.1 in
-      first_of_both x parts.0 parts.1 parts.4 h looks start end lead.low to (rest.others looks) lead.leads (rest.first looks) in
+      first_of_both x parts.0 parts.1 parts.4 h looks start end lead.others lead.leads to (rest.others looks) (rest.first looks) in
       record { others = λ looks. (both looks).others; first = λ looks. (both looks).is }
 
 -- nor is a match in the rounds of the first part
@@ -327,7 +364,7 @@ in_rounds r ps x parts apart h bytes start end read none k low high = record {
     | inr enough ↦
         let leads = rounds_lead r None parts.0 parts.2 h bytes looks start end read.0 read.1 k low (inl refl) (omega (arith, enough)) in
         let nothing_there = (none parts.1 parts.3 apart.1).none looks in
-        none_of_both x parts.0 parts.1 parts.4 h looks k end (k + r.least) leads nothing_there
+        none_of_both x parts.0 parts.1 parts.4 h looks k end leads.others leads.is nothing_there
         (λ m other.
         let so = leads.before m other in
         none_at r None ps parts.1 parts.3 h bytes looks parts.0 parts.2 start end read.0 nothing_there apart.0 m
@@ -341,6 +378,7 @@ pub nowhere : (p : Part) (ps : List Part) (x : Tree) → AreParts (p ∷ ps) x �
 nowhere p ps x parts apart h bytes start end last read none (inl here) k low high =
     subst (λ (n : ℕ). HasNoEndAt x h n) (omega (arith, here, low, high)) (others_missing p ps x parts apart h bytes start end read none)
 nowhere (Literal text) ps x parts apart h bytes start end last read none (inr there) k low high = elim there.1 [ ]
+nowhere (OneOf texts) ps x parts apart h bytes start end last read none (inr there) k low high = elim there.1 [ ]
 nowhere (Rounds r None) ps x parts apart h bytes start end last read none (inr there) k low high =
     in_rounds r ps x parts apart h bytes start end read none k low (omega (arith, high, there.0))
 nowhere (Rounds r (Some most)) ps x parts apart h bytes start end last read none (inr there) k low high = elim there.1 [ ]

@@ -1,11 +1,12 @@
 -- Trees are split into parts that have the same ends.
 use Rattle.std.proofs.Common.{◌≡◌, ℕ, zero, suc, ◌+◌, ◌-◌, ◌<◌, Bool, true, false, not, List, [], ◌∷◌, ◌++◌, length, drop, All}
+use Rattle.std.proofs.Common.{map}
 use Rattle.std.proofs.Common.{Global, Vec, slice_get, reverse, Some, None, Option, refl, sym, ap, subst, ◌∙◌, arith, get_or, if◌then◌else◌, true≢false}
 use Rattle.std.specs.List.{flat_map}
 use Rattle.std.proofs.lemmas.List.{append-nil, drop_all, drop_more, reverse-append}
 use Rattle.std.proofs.lemmas.Option.{get_or_from_slice_get}
 use Rattle.search_core.specs.ByteSets.{has}
-use Rattle.hir_core.specs.Tree.{Tree, capture, cat, concat, empty, literal, nothing, repetition}
+use Rattle.hir_core.specs.Tree.{Tree, alternation, capture, cat, concat, empty, literal, nothing, repetition}
 use Rattle.hir_core.specs.Means.{Looks, stands}
 use Rattle.hir_core.specs.PreferredEnds.{Ends, at_least, between, preferred_ends, repeated, up_to}
 use Rattle.hir_core.proofs.ForCallers.{flat_map-flat_map}
@@ -13,7 +14,7 @@ use Rattle.meta_regex.specs.Parts.{AreDecided, AreParts, HasEndsOf, IsDecided, I
 use Rattle.meta_regex.specs.Runs.{AreRoundsOf}
 use Rattle.meta_regex.specs.Splitting.{IsBeginning, IsDisjoint, PutsParts, PutsRounds, begins_outside}
 use Rattle.meta_regex.specs.declared.parts.Part.{Part}
-use Rattle.meta_regex.specs.declared.parts.Part.TheVariants.{Literal, Rounds}
+use Rattle.meta_regex.specs.declared.parts.Part.TheVariants.{Literal, Rounds, OneOf}
 use Rattle.meta_regex.specs.declared.splitting.Beginning.TheVariants.{Never, Empty}
 use Rattle.meta_regex.specs.declared.runs.Run.{Run}
 use Rattle.meta_regex.proofs.FirstByteLemmas.{byte_below, first_of_rest, rest_stands}
@@ -77,6 +78,14 @@ pub puts_literal : (copy : Vec ℕ Global) (bytes : List ℕ) → copy.items ≡
 puts_literal copy bytes is old new put =
     puts_part (Literal copy) (literal bytes)
     (record { same = λ looks h i. ap (λ (l : List ℕ). preferred_ends looks h (literal l) i) (sym is) }) old new tt put
+
+-- where nothing follows
+pub puts_one_of : (texts : Vec (Vec ℕ Global) Global) (trees : List Tree) → map (λ t. literal t.items) texts.items ≡ trees →
+    (old new : List Part) → old ≡ [] → new ≡ old ++ (OneOf texts) ∷ [] → PutsParts (alternation trees) old new
+puts_one_of texts trees are old new none put =
+    puts_part (OneOf texts) (alternation trees)
+    (record { same = λ looks h i. ap (λ (xs : List Tree). preferred_ends looks h (alternation xs) i) (sym are) }) old new
+    (ap (λ (l : List Part). reverse l) none) put
 
 pub puts_repetition : (least : ℕ) (most : Option ℕ) (body : Tree) (old new : List Part) → PutsRounds least most body old new →
     PutsParts (repetition least most true body) old new
@@ -166,11 +175,13 @@ module _ (set : List Bool) (h : List ℕ) (bytes : All (λ b. b < 256) h) (i b :
       by_test : (t : Bool) → t ≡ false → (if t then (i + length text.items) ∷ [] else []) ≡ []
       by_test true is = cc
       by_test false is = refl
+  never_there (OneOf texts) begins c is looks = elim begins [ ]
   never_there (Rounds r most) begins c is looks =
       is.ends looks h i ∙ repeated_none h _ r.least most i begins.0 (round_not r is.body is.rounds begins.1 looks)
 
   empty_there : (p : Part) → IsBeginning p set Empty → (c : Tree) → IsPart p c → (looks : Looks) → preferred_ends looks h c i ≡ i ∷ []
   empty_there (Literal text) begins c is looks = elim begins [ ]
+  empty_there (OneOf texts) begins c is looks = elim begins [ ]
   empty_there (Rounds r most) begins c is looks =
       is.ends looks h i ∙ repeated_empty h _ r.least most i begins.0 (round_not r is.body is.rounds begins.1 looks)
 

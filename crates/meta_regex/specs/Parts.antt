@@ -1,11 +1,12 @@
 -- Patterns that are literals and greedy rounds of classes, one after the other: their parts, and what is read of these.
-use Rattle.std.specs.Prelude.{◌≡◌, ◌⊎◌, ℕ, ◌+◌, ◌<◌, ◌≤◌, Bool, true, false, List, [], ◌∷◌, All, length, get_or, slice_get, Option, Some, None, ⊤}
+use Rattle.std.specs.Prelude.{◌≡◌, ◌⊎◌, ℕ, ◌+◌, ◌<◌, ◌≤◌, Bool, true, false, List, [], ◌∷◌, All, length, get_or, slice_get, Option, Some, None, ⊤, Vec, map, if◌then◌else◌}
+use Rattle.std.specs.Global.{Global}
 use Rattle.search_core.specs.ByteSets.{has}
-use Rattle.hir_core.specs.Tree.{Tree, literal, nothing, cat}
+use Rattle.hir_core.specs.Tree.{Tree, alternation, literal, nothing, cat}
 use Rattle.hir_core.specs.Means.{Looks, stands}
 use Rattle.hir_core.specs.PreferredEnds.{preferred_ends, repeated}
 use Rattle.meta_regex.specs.declared.parts.Part.{Part}
-use Rattle.meta_regex.specs.declared.parts.Part.TheVariants.{Literal, Rounds}
+use Rattle.meta_regex.specs.declared.parts.Part.TheVariants.{Literal, Rounds, OneOf}
 use Rattle.meta_regex.specs.declared.parts.Read.{Read}
 use Rattle.meta_regex.specs.declared.parts.Read.TheVariants.{To, Missing, GaveUp}
 use Rattle.meta_regex.specs.declared.runs.Run.{Run}
@@ -21,10 +22,15 @@ pub record AreRounds (r : Run) (most : Option ℕ) (x : Tree) : Type 0 where
   pub rounds : AreRoundsOf r body
   pub ends : (looks : Looks) (h : List ℕ) (i : ℕ) → preferred_ends looks h x i ≡ repeated h r.least most true (preferred_ends looks h body) i
 
+-- the alternation of these strings
+abbrev pub any_text : List (Vec ℕ Global) → Tree
+any_text texts = alternation (map (λ t. literal t.items) texts)
+
 -- the part is this tree
 abbrev pub IsPart : Part → Tree → Type 0
 IsPart (Literal bytes) x = HasEndsOf x (literal bytes.items)
 IsPart (Rounds run most) x = AreRounds run most x
+IsPart (OneOf texts) x = HasEndsOf x (any_text texts.items)
 
 -- the parts are this tree, one after the other
 abbrev pub AreParts : List Part → Tree → Type 0
@@ -44,6 +50,7 @@ pub record Shun (ps : List Part) (set : List Bool) : Type 0 where
 -- shun its bytes.
 abbrev pub IsDecided : Part → List Part → Type 0
 IsDecided (Literal bytes) ps = ⊤
+IsDecided (OneOf texts) ps = ps ≡ []
 IsDecided (Rounds run most) ps = (most ≡ Some run.least) ⊎ (ps ≡ []) ⊎ Shun ps run.members
 
 -- so for each of the parts
@@ -84,6 +91,17 @@ ReadsLiteral bytes h i (To e) = (stands h i bytes ≡ true) × (e ≡ i + length
 ReadsLiteral bytes h i (Missing e) = stands h i bytes ≡ false
 ReadsLiteral bytes h i GaveUp = ⊤
 
+-- the end of the first of these strings that stands there
+abbrev pub first_end : List (Vec ℕ Global) → List ℕ → ℕ → Option ℕ
+first_end [] h i = None
+first_end (t ∷ texts) h i = if stands h i t.items then Some (i + length t.items) else first_end texts h i
+
+-- what is read of one of several strings
+abbrev pub ReadsOneOf : List (Vec ℕ Global) → List ℕ → ℕ → Read → Type 0
+ReadsOneOf texts h i (To e) = first_end texts h i ≡ Some e
+ReadsOneOf texts h i (Missing e) = first_end texts h i ≡ None
+ReadsOneOf texts h i GaveUp = ⊤
+
 -- what is read of rounds
 abbrev pub ReadsRounds : Run → Option ℕ → List ℕ → ℕ → Read → Type 0
 ReadsRounds r most h i (To e) = IsStretch r most h i e × GoesNoFurther r most h i e × (i + r.least ≤ e)
@@ -93,6 +111,7 @@ ReadsRounds r most h i GaveUp = ⊤
 -- what is read of a part
 abbrev pub ReadsPart : Part → List ℕ → ℕ → Read → Type 0
 ReadsPart (Literal bytes) h i read = ReadsLiteral bytes.items h i read
+ReadsPart (OneOf texts) h i read = ReadsOneOf texts.items h i read
 ReadsPart (Rounds run most) h i read = ReadsRounds run most h i read
 
 -- what is read of a tree: its preferred end, or that it has none

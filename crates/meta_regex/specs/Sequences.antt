@@ -2,7 +2,7 @@
 use Rattle.std.specs.Prelude.{◌≡◌, ◌⊎◌, ℕ, ◌<◌, ◌≤◌, List, length, None, Some, ⊤}
 use Rattle.hir_core.specs.Tree.{Tree}
 use Rattle.meta_regex.specs.declared.parts.Part.{Part}
-use Rattle.meta_regex.specs.declared.parts.Part.TheVariants.{Literal, Rounds}
+use Rattle.meta_regex.specs.declared.parts.Part.TheVariants.{Literal, Rounds, OneOf}
 use Rattle.meta_regex.specs.declared.sequences.Attempt.{Attempt}
 use Rattle.meta_regex.specs.declared.sequences.Attempt.TheVariants.{Ends, Nowhere, GaveUp}
 use Rattle.meta_regex.specs.declared.sequences.Sequence.{Sequence}
@@ -19,6 +19,7 @@ pub record IsSequenceOf (s : Sequence) (x : Tree) : Type 0 where
 -- the part is rounds without a bound
 abbrev pub IsUnbounded : Part → Type 0
 IsUnbounded (Literal bytes) = ⊥
+IsUnbounded (OneOf texts) = ⊥
 IsUnbounded (Rounds run None) = ⊤
 IsUnbounded (Rounds run (Some most)) = ⊥
 

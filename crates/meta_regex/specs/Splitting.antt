@@ -3,7 +3,7 @@ use Rattle.std.specs.Prelude.{◌≡◌, ◌++◌, ℕ, ◌<◌, Bool, true, fal
 use Rattle.search_core.specs.ByteSets.{has}
 use Rattle.hir_core.specs.Tree.{Tree, cat}
 use Rattle.meta_regex.specs.declared.parts.Part.{Part}
-use Rattle.meta_regex.specs.declared.parts.Part.TheVariants.{Literal, Rounds}
+use Rattle.meta_regex.specs.declared.parts.Part.TheVariants.{Literal, Rounds, OneOf}
 use Rattle.meta_regex.specs.declared.runs.Run.{Run}
 use Rattle.meta_regex.specs.declared.splitting.Beginning.{Beginning}
 use Rattle.meta_regex.specs.declared.splitting.Beginning.TheVariants.{Never, Empty, Unknown}
@@ -30,6 +30,9 @@ abbrev pub IsBeginning : Part → List Bool → Beginning → Type 0
 IsBeginning (Literal bytes) set Never = begins_outside bytes.items set ≡ true
 IsBeginning (Literal bytes) set Empty = ⊥
 IsBeginning (Literal bytes) set Unknown = ⊤
+IsBeginning (OneOf texts) set Never = ⊥
+IsBeginning (OneOf texts) set Empty = ⊥
+IsBeginning (OneOf texts) set Unknown = ⊤
 IsBeginning (Rounds run most) set beginning = IsRoundsBeginning run set beginning
 
 -- The parts of the tree were put before these. Lists of parts are from the last to the first here.

@@ -112,7 +112,7 @@ fn step_after(haystack: &[u8], start: usize) -> Step
 }
 
 /// What comes after a try at this offset.
-fn step_of(tried: Tried, haystack: &[u8], start: usize) -> Step
+pub(crate) fn step_of(tried: Tried, haystack: &[u8], start: usize) -> Step
     requires { start ≤ length haystack.now }
     ensures step { (config : TextConfig) (texts : List (List ℕ)) → IsTried config texts haystack.now start tried →
         IsStep config texts haystack.now start result }
@@ -147,7 +147,7 @@ impl Regex {
     }
 
     /// [`find_there`](Regex::find_there), which records what it cost.
-    fn try_there(&self, cache: &mut Cache, haystack: &[u8], at: usize) -> Tried
+    pub(crate) fn try_there(&self, cache: &mut Cache, haystack: &[u8], at: usize) -> Tried
         requires own { IsCacheOf self.now cache.old }
         requires within { at ≤ length haystack.now }
         requires valid { (config_by self.now).utf8 ≡ true → IsValidText haystack.now }

@@ -165,6 +165,14 @@ impl Regex {
         }
     }
 
+    /// Whether the only pattern is literals and rounds of classes, one after the other.
+    pub(crate) fn is_sequence(&self) -> bool {
+        match self.way {
+            Way::Sequence(_) => true,
+            Way::Automata | Way::Run(_) => false,
+        }
+    }
+
     /// How many skipped bytes make up for the search that begins at a literal. Where it begins at the start of a line, it costs more, and
     /// where it needs no automata, less.
     pub(crate) fn candidate_price(&self) -> usize {

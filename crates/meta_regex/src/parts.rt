@@ -2,13 +2,13 @@
 //! without automata.
 //!
 //! A literal has one end. Of rounds, the preferred end is the end of the run of bytes of the class. If what follows a part has no end there, it
-//! has none at the part's other ends, since these have a byte of the class behind them, with which nothing that follows begins. So each
+//! has none at the part's other ends, since a byte of the class follows each, with which nothing that follows begins. So each
 //! part is read once. Of a class of characters, rounds are read in ASCII alone.
 ghost use Rattle.std.specs.Prelude.{◌≡◌, ◌+◌, ◌≤◌, ◌<◌, false, get_or, length, true};
 ghost use Rattle.search_core.specs.ByteSets.{has};
 ghost use Rattle.hir_core.specs.Means.{stands};
 ghost use Rattle.hir_core.specs.Tree.{Tree};
-ghost use Rattle.meta_regex.specs.Parts.{AreDecided, AreParts, AllowsMore, IsReadWithin, ReadsAll, ReadsLiteral, ReadsPart, ReadsRounds, IsStretch};
+ghost use Rattle.meta_regex.specs.Parts.{AreDecided, AreParts, AllowsMore, IsReadWithin, ReadsAll, ReadsLiteral, ReadsOneOf, ReadsPart, ReadsRounds, IsStretch};
 
 use crate::runs::{Run, skip_members, stands_at};
 use crate::searching::see_bytes;
@@ -20,6 +20,8 @@ pub(crate) enum Part {
     Literal(Vec<u8>),
     /// Rounds of a class, of which more are preferred: at least as many as the run says, and at most so many if there is a bound.
     Rounds { run: Run, most: Option<usize> },
+    /// One of these strings, an earlier one preferred. Nothing follows it.
+    OneOf(Vec<Vec<u8>>),
 }
 
 /// What is read from an offset on.
@@ -34,6 +36,7 @@ pub(crate) enum Read {
 }
 
 /// Whether the haystack has these bytes at this offset.
+#[inline(always)]
 fn stands(bytes: &[u8], haystack: &[u8], at: usize) -> bool
     requires { at ≤ length haystack.now }
     ensures same { result ≡ stands haystack.now at bytes.now }
@@ -44,6 +47,7 @@ fn stands(bytes: &[u8], haystack: &[u8], at: usize) -> bool
 }
 
 /// Reads a literal.
+#[inline(always)]
 fn read_literal(bytes: &[u8], haystack: &[u8], at: usize) -> Read
     requires { at ≤ length haystack.now }
     ensures within { IsReadWithin haystack.now at result }
@@ -56,6 +60,7 @@ fn read_literal(bytes: &[u8], haystack: &[u8], at: usize) -> Read
 }
 
 /// The end of the rounds that begin at this offset and are a byte each.
+#[inline(always)]
 fn end_of_rounds(run: &Run, most: Option<usize>, haystack: &[u8], at: usize) -> usize
     requires { at ≤ length haystack.now }
     ensures { IsStretch run.now most haystack.now at result }
@@ -75,6 +80,7 @@ fn end_of_rounds(run: &Run, most: Option<usize>, haystack: &[u8], at: usize) -> 
 }
 
 /// Whether a byte follows with which another round may begin.
+#[inline(always)]
 fn may_go_on(run: &Run, most: Option<usize>, haystack: &[u8], at: usize, end: usize) -> bool
     requires { at ≤ end }
     ensures { result ≡ false → AllowsMore most at end → end < length haystack.now → has run.now.first (get_or haystack.now end 0) ≡ false }
@@ -88,6 +94,7 @@ fn may_go_on(run: &Run, most: Option<usize>, haystack: &[u8], at: usize, end: us
 }
 
 /// Reads rounds of a class.
+#[inline(always)]
 fn read_rounds(run: &Run, most: Option<usize>, haystack: &[u8], at: usize) -> Read
     requires { at ≤ length haystack.now }
     ensures within { IsReadWithin haystack.now at result }
@@ -103,7 +110,23 @@ fn read_rounds(run: &Run, most: Option<usize>, haystack: &[u8], at: usize) -> Re
     Read::To(end)
 }
 
+/// Reads the first of these strings that stands there.
+#[inline(always)]
+fn read_one_of(texts: &[Vec<u8>], haystack: &[u8], at: usize) -> Read
+    requires { at ≤ length haystack.now }
+    ensures within { IsReadWithin haystack.now at result }
+    ensures read { ReadsOneOf texts.now haystack.now at result }
+{
+    for text in texts {
+        if stands(text, haystack, at) {
+            return Read::To(at + text.len());
+        }
+    }
+    Read::Missing(at)
+}
+
 /// Reads one part.
+#[inline(always)]
 pub(crate) fn read_part(part: &Part, haystack: &[u8], at: usize) -> Read
     requires { at ≤ length haystack.now }
     ensures within { IsReadWithin haystack.now at result }
@@ -112,6 +135,7 @@ pub(crate) fn read_part(part: &Part, haystack: &[u8], at: usize) -> Read
     match part {
         Part::Literal(bytes) => read_literal(bytes, haystack, at),
         Part::Rounds { run, most } => read_rounds(run, *most, haystack, at),
+        Part::OneOf(texts) => read_one_of(texts, haystack, at),
     }
 }
 

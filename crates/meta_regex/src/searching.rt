@@ -5,11 +5,11 @@ ghost use Rattle.search_core.specs.Utf8.{IsValidText};
 ghost use Rattle.pattern_search.specs.Searches.{whole_search};
 ghost use Rattle.regex_pair.specs.Pairs.{AreCachesOf};
 ghost use Rattle.meta_regex.specs.Caches.{IsCacheOf};
-ghost use Rattle.meta_regex.specs.Starts.{HasSoughtSpan, IsSought, sought_of};
+ghost use Rattle.meta_regex.specs.Starts.{HasSoughtSpan, HasStepSpan, IsSought, IsStep, sought_of};
 ghost use Rattle.meta_regex.specs.Wordless.{MayBeginAt};
 ghost use Rattle.meta_regex.specs.Regexes.{HasFoundStart, HasFoundSpan, IsSearchError, IsReported, config_by, row_of};
 
-use crate::anchored::Sought;
+use crate::anchored::{Sought, Step, step_of};
 use crate::cache::Cache;
 use crate::compiled::Regex;
 use crate::errors::SearchError;
@@ -382,6 +382,46 @@ impl Regex {
         sought_of(way.next(starts, &mut cache.effort, haystack, from))
     }
 
+    /// One step of a search without automata. Where a sequence gave up, automata try that offset alone.
+    #[inline(always)]
+    fn step_directly(&self, cache: &mut Cache, haystack: &[u8], at: usize) -> Step
+        requires own { IsCacheOf self.now cache.old }
+        requires within { at ≤ length haystack.now }
+        requires valid { (config_by self.now).utf8 ≡ true → IsValidText haystack.now }
+        ensures own { IsCacheOf self.now cache.new }
+        ensures step { IsStep (config_by self.now) self.now.texts haystack.now at result }
+        ensures preferred { self.now.loops ≡ true → HasStepSpan (config_by self.now) self.now.texts haystack.now at result }
+    {
+        let start = match self.sought_directly(cache, haystack, at) {
+            Sought::Found(found) => return Step::Done(Sought::Found(found)),
+            Sought::Missing => return Step::Done(Sought::Missing),
+            Sought::From(start) => start,
+        };
+        if start < at || !self.is_sequence() || !cache.effort.pays() {
+            return Step::Done(Sought::From(start));
+        }
+        let tried = self.try_there(cache, haystack, start);
+        step_of(tried, haystack, start)
+    }
+
+    /// A search without automata, as long as that pays.
+    fn sought_by_steps(&self, cache: &mut Cache, haystack: &[u8], from: usize) -> Sought
+        requires own { IsCacheOf self.now cache.old }
+        requires within { from ≤ length haystack.now }
+        requires valid { (config_by self.now).utf8 ≡ true → IsValidText haystack.now }
+        ensures own { IsCacheOf self.now cache.new }
+        ensures sought { IsSought (config_by self.now) self.now.texts haystack.now from result }
+        ensures preferred { self.now.loops ≡ true → HasSoughtSpan (config_by self.now) self.now.texts haystack.now from result }
+    {
+        let mut at = from;
+        loop {
+            match self.step_directly(cache, haystack, at) {
+                Step::Done(sought) => return sought,
+                Step::Next(next) => at = next,
+            }
+        }
+    }
+
     /// A search without automata, as far as one is known.
     #[inline(never)]
     fn search_directly(
@@ -399,7 +439,7 @@ impl Regex {
         ensures preferred { self.now.loops ≡ true → IfOk result (HasFoundSpan (config_by self.now) self.now.texts haystack.now from) }
         ensures refused { IfErr result (IsSearchError (config_by self.now) haystack.now) }
     {
-        let start = match self.sought_directly(cache, haystack, from) {
+        let start = match self.sought_by_steps(cache, haystack, from) {
             Sought::Found(found) => return Ok(Some(found)),
             Sought::Missing => return Ok(None),
             Sought::From(start) => start,

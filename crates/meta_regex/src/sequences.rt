@@ -13,9 +13,10 @@ ghost use Rattle.meta_regex.specs.Runs.{IsNextRun, PrefersEnd};
 ghost use Rattle.meta_regex.specs.Sequences.{IsAttempt, IsAttemptWithin, IsLastStart, IsSequenceOf};
 
 use crate::parts::{Part, Read, read_part, read_parts};
-use crate::runs::NextRun;
+use crate::runs::{NextRun, stands_at};
 use crate::searching::see_bytes;
 use literal_search::{CandidateFinder, Effort};
+use search_core::ByteSet;
 
 /// A match saves as much as a search by automata of this many bytes costs.
 const GAIN: usize = 160;
@@ -28,7 +29,9 @@ const FAILED: usize = 24;
 pub(crate) struct Sequence {
     /// Its parts, from the first to the last.
     pub(crate) parts: Vec<Part>,
-    /// A search for the next byte with which a match may begin.
+    /// The bytes with which a match may begin.
+    pub(crate) first: ByteSet,
+    /// A search for the next of these bytes.
     pub(crate) starts: regex_literal::ByteSet,
 }
 
@@ -110,7 +113,8 @@ impl Sequence {
         Some(start)
     }
 
-    /// The next offset at which a match may start, by these literals with which each match begins, or by its first byte.
+    /// The next offset at which a match may start, by these literals with which each match begins, or by its first byte. Where a search
+    /// begins, the last match often ended, and the next one starts at once: so no literal is searched for if the byte there may begin one.
     #[inline(always)]
     fn next_start(
         &self,
@@ -118,11 +122,15 @@ impl Sequence {
         effort: &mut Effort,
         haystack: &[u8],
         from: usize,
+        is_new: bool,
     ) -> Option<usize>
         requires { from ≤ length haystack.now }
         ensures within { IfSome result (λ start. (from ≤ start) × (start ≤ length haystack.now)) }
         ensures start { (x : Tree) → IsSequenceOf self.now x → IfSome literals.entry (λ f. IsBegunBy f.now x) → IsNextStart x haystack.now from result }
     {
+        if is_new && stands_at(&self.first, haystack, from) {
+            return Some(from);
+        }
         match literals {
             Some(finder) => finder.next_start(effort, haystack, from),
             None => self.next_first(effort, haystack, from),
@@ -142,7 +150,7 @@ impl Sequence {
     {
         let mut at = from;
         while effort.pays() {
-            let Some(start) = self.next_start(literals, effort, haystack, at) else {
+            let Some(start) = self.next_start(literals, effort, haystack, at, at == from) else {
                 return NextRun::Missing;
             };
             match try_at(&self.parts, haystack, start) {

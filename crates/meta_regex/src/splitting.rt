@@ -1,8 +1,8 @@
 //! Splits trees into literals and greedy rounds of classes, one after the other.
 //!
 //! Parts are put into a list from the last to the first, so what follows a part is known when it comes.
-ghost use Rattle.std.specs.Prelude.{◌≡◌, ◌++◌, ◌∷◌, [], IfSome, Some, false, reverse, true};
-ghost use Rattle.hir_core.specs.Tree.{concat, literal, repetition};
+ghost use Rattle.std.specs.Prelude.{◌≡◌, ◌++◌, ◌∷◌, [], IfSome, OnOk, Some, false, map, reverse, true};
+ghost use Rattle.hir_core.specs.Tree.{alternation, concat, literal, repetition};
 ghost use Rattle.meta_regex.specs.declared.parts.Part.TheVariants.{Rounds};
 ghost use Rattle.meta_regex.specs.Parts.{AreDecided, AreParts, IsDecided, Shun};
 ghost use Rattle.meta_regex.specs.Splitting.{IsBeginning, IsDisjoint, IsRoundsBeginning, PutsParts, PutsRounds, begins_outside};
@@ -11,7 +11,7 @@ use crate::parts::Part;
 use crate::runs::{Run, run_of_body};
 use hir_core::{Hir, HirKind};
 use search_core::ByteSet;
-use std::alloc::Global;
+use std::alloc::{AllocError, Global};
 
 /// Trees of more parts than this aren't split.
 const MOST_PARTS: usize = 64;
@@ -74,6 +74,7 @@ fn beginning_of(part: &Part, set: &ByteSet) -> Beginning
             Beginning::Unknown
         }
         Part::Rounds { run, .. } => beginning_of_rounds(run, set),
+        Part::OneOf(_) => Beginning::Unknown,
     }
 }
 
@@ -172,6 +173,50 @@ fn put_class(class: &Hir, parts: &mut Vec<Part>) -> bool
     put_rounds(1, Some(1), class, parts)
 }
 
+/// Adds a copy of a string to others.
+fn push_copy(alloc: Global, texts: &mut Vec<Vec<u8>>, bytes: &[u8]) -> Result<(), AllocError>
+    ensures { OnOk result (map (λ t. literal t.items) texts.new.items ≡ map (λ t. literal t.items) texts.old.items ++ literal bytes.now ∷ []) }
+{
+    texts.push(Vec::from_slice(alloc, bytes)?)?;
+    Ok(())
+}
+
+/// The strings that the trees are, if each of them is one.
+fn strings_of(alloc: Global, trees: &[Hir]) -> Option<Vec<Vec<u8>>>
+    ensures { IfSome result (λ texts. map (λ t. literal t.items) texts.items ≡ trees.now) }
+{
+    let mut texts = Vec::new(alloc);
+    for tree in trees {
+        let HirKind::Literal(bytes) = tree.kind() else {
+            return None;
+        };
+        let Ok(()) = push_copy(alloc, &mut texts, bytes) else {
+            return None;
+        };
+    }
+    Some(texts)
+}
+
+/// Whether there are no parts.
+fn has_none(parts: &[Part]) -> bool
+    ensures { result ≡ true → parts.now ≡ [] }
+{
+    parts.is_empty()
+}
+
+/// Puts one of several strings where nothing follows.
+fn put_one_of(alloc: Global, trees: &[Hir], parts: &mut Vec<Part>) -> bool
+    ensures { result ≡ true → PutsParts (alternation trees.now) parts.old.items parts.new.items }
+{
+    if MOST_PARTS < trees.len() || !has_none(parts) {
+        return false;
+    }
+    let Some(texts) = strings_of(alloc, trees) else {
+        return false;
+    };
+    put_part(parts, Part::OneOf(texts))
+}
+
 /// Puts the parts of a tree before those that are there. It returns `false` if it doesn't put all of them.
 #[cycle(put_tree)]
 fn put_tree(alloc: Global, x: &Hir, parts: &mut Vec<Part>) -> bool
@@ -190,8 +235,8 @@ fn put_tree(alloc: Global, x: &Hir, parts: &mut Vec<Part>) -> bool
         } => put_repetition(*min, *max, *greedy, sub, parts),
         HirKind::Capture { sub, .. } => put_tree(alloc, sub, parts),
         HirKind::Concat(subs) => put_trees(alloc, subs, parts),
+        HirKind::Alternation(subs) => put_one_of(alloc, subs, parts),
         HirKind::Look(_) => false,
-        HirKind::Alternation(_) => false,
     }
 }
 

@@ -43,6 +43,7 @@ fn sequence_of_only(alloc: Global, trees: &[Hir]) -> Option<Sequence>
     };
     Some(Sequence {
         parts,
+        first,
         starts: regex_literal::ByteSet::new(&flags_of(&first)),
     })
 }
