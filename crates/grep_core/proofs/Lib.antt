@@ -19,3 +19,4 @@ mod TextLemmas
 mod WholeLemmas
 pub mod WriteLemmas
 mod LongLineLemmas
+mod PieceLemmas

@@ -1,23 +1,26 @@
 -- What is written of a line while its matches are searched for.
 use Rattle.std.proofs.Common.{◌≡◌, ℕ, zero, suc, ◌+◌, ◌-◌, ◌<◌, Bool, true, false, not, ◌&&◌, List, [], ◌∷◌, ◌++◌, length, map, take, drop, Option}
-use Rattle.std.proofs.Common.{Some, None, Result, Ok, Err, IfErr, OnOk, if◌then◌else◌, refl, sym, ap, ap₂, ◌∙◌, subst, arith, append_assoc, append-nil}
+use Rattle.std.proofs.Common.{Some, None, is_some, nat_lt, option_map, ◌||◌, inl, inr, Result, Ok, Err, IfErr, OnOk, if◌then◌else◌, refl, sym, ap, ap₂, ◌∙◌, subst, arith, append_assoc, append-nil}
 use Rattle.std.proofs.Math.Seq.{take-append_seam, take-append-add}
+use Rattle.std.proofs.lemmas.Grind.{common_steps}
 use Rattle.std.proofs.KnownBytes.{Appends-nil, Appends-trans}
 use Rattle.std.proofs.lemmas.List.Concat.{flat_map-cons}
 use Rattle.std.specs.Io.KnownBytes.{Appends}
 use Rattle.std.specs.List.{flat_map, position}
 use Rattle.regex_hir.specs.Re.{Re}
-use Rattle.regex_hir.specs.Find.{find, find_all}
+use Rattle.regex_hir.specs.Find.{Match, find, find_all}
 use Rattle.pattern_search.specs.Searches.{span_of_match}
 use Rattle.pattern_search.specs.Texts.{AreReadAs}
 use Rattle.grep_core.specs.Blocks.{SearchesBy, Writes, WritesPart, counts_lines, finds_by, reported_bytes}
 use Rattle.grep_core.specs.ContextPrinting.{Item, item, print_as, print_item, still}
 use Rattle.line_search.specs.Fallbacks.{found_at, next_after, spans_following}
 use Rattle.line_search.specs.Lines.{SplitLine, TextLine, ended, numbered, searched, split_lines, unended}
-use Rattle.grep_core.specs.LongLines.{Sends, WritesLines}
+use Rattle.grep_core.specs.LongLines.{PrintsByMatch, PrintsEach, Sends, WritesLines, printed_one, printed_one_as}
+use Rattle.line_search.specs.Bounded.{line_pattern}
 use Rattle.line_search.specs.Meant.{line_config}
 use Rattle.line_search.specs.Patterns.{has_match_in, spans_in}
-use Rattle.grep_core.specs.Printing.{printed_match, printed_matches, shows_matches}
+use Rattle.grep_core.specs.Printing.{column_of, exceeds, fields, is_long, line_bytes, long_text, printed_for, printed_line, printed_match}
+use Rattle.grep_core.specs.Printing.{printed_matches, printed_once, printed_with, shows_matches, tab, trimmed}
 use Rattle.line_search.specs.LineMatchers.{LineMatcher}
 use Rattle.grep_core.specs.Report.{shown_by, shown_line, shown_spans}
 use Rattle.grep_core.specs.Reporting.{added, added_matches, count_in_all, may_select, needs_of, needs_spans, number_of, prints_lines, shown, still_reported}
@@ -183,22 +186,21 @@ module _ (g : ℕ × ℕ → List ℕ) (re : Re) (line : List ℕ) where
       stands_end (start ++ flat_map g (map span_of_match (find_all re line))) u w out (still_to_come n next)
       (ap (λ k. still_to_come k next) none) a
 
--- ---- a line that is selected, whose matches alone are printed
+-- ---- a line that is selected, whose matches are printed one by one
 selects_one : (w : OutputOptions) (n : ℕ) → w.invert ≡ false → may_select w.most n ≡ true → true ≡ selects w n true
 selects_one w n plain may = sym (ap₂ (λ a b. (if a then false else true) && b) plain may)
 
-prints_alone : (w : OutputOptions) → w.print ≡ Matches → prints_lines w.print ≡ true
-prints_alone w is = ap prints_lines is
+prints_some : (w : OutputOptions) → PrintsByMatch w → prints_lines w.print ≡ true
+prints_some w (inl alone) = ap prints_lines alone
+prints_some w (inr each) = ap prints_lines each.lines
 
-adds_none : (w : OutputOptions) (t u : Reporter) (n : ℕ) → w.print ≡ Matches → u.matches ≡ t.matches →
+counts_none : (w : OutputOptions) (n : ℕ) → PrintsByMatch w → added_matches w.print true n ≡ 0
+counts_none w n (inl alone) = ap (λ p. added_matches p true n) alone
+counts_none w n (inr each) = ap (λ p. added_matches p true n) each.lines
+
+adds_none : (w : OutputOptions) (t u : Reporter) (n : ℕ) → PrintsByMatch w → u.matches ≡ t.matches →
     u.matches ≡ t.matches + added_matches w.print true n
-adds_none w t u n is same =
-    let none : added_matches w.print true n ≡ 0 = ap (λ p. added_matches p true n) is in
-    omega (arith, same, none)
-
-shown_alone : (w : OutputOptions) (name : Option (List ℕ)) (line : TextLine) (found : List (ℕ × ℕ)) → w.print ≡ Matches →
-    print_item w name Selected (item line found) ≡ printed_matches w name Selected line found
-shown_alone w name line found is = ap (λ p. print_as p w name Selected (item line found)) is
+adds_none w t u n by_match same = let none = counts_none w n by_match in omega (arith, same, none)
 
 -- without a template, a line is shown as it is
 line_as_it_is : (w : OutputOptions) (f : LineMatcher) (line : TextLine) → w.replacement ≡ None → line ≡ shown_line w f line
@@ -209,40 +211,91 @@ spans_as_they_are : (w : OutputOptions) (f : LineMatcher) (line : TextLine) → 
 spans_as_they_are w f line unreplaced = ap (λ o. (shown_by o f line.content).spans) (sym unreplaced)
 
 module _ (w : OutputOptions) (f : LineMatcher) (name : List ℕ) (with_name : Bool) where
-  pub begun : (t u : Reporter) (line : TextLine) (out new : List ℕ) (lines : List TextLine) → w.print ≡ Matches → w.invert ≡ false →
+  pub begun : (t u : Reporter) (line : TextLine) (out new : List ℕ) (lines : List TextLine) → PrintsByMatch w → w.invert ≡ false →
       w.replacement ≡ None → may_select w.most t.count ≡ true → true ≡ f.has_match line.content → u.count ≡ t.count + 1 → u.matches ≡ t.matches →
       ((it : Item) (flags : List Bool) (items : List Item) →
       out ++ still w (shown with_name name) t.course (true ∷ flags) (it ∷ items)
       ≡ (new ++ print_item w (shown with_name name) Selected it) ++ still w (shown with_name name) u.course flags items) →
       out ++ still_reported w f name with_name t (line ∷ lines)
-      ≡ new ++ (printed_matches w (shown with_name name) Selected line (f.spans line.content) ++ still_reported w f name with_name u lines)
-  begun t u line out new lines alone plain unreplaced may seen counted same goes_on =
+      ≡ new ++ (print_item w (shown with_name name) Selected (item line (f.spans line.content)) ++ still_reported w f name with_name u lines)
+  begun t u line out new lines by_match plain unreplaced may seen counted same goes_on =
       let it : Item = item line (f.spans line.content) in
       let after : List ℕ = new ++ print_item w (shown with_name name) Selected it in
       let number : number_of w.print u ≡ number_of w.print t + added w.print true (length (f.spans line.content)) =
       number_told w.print t u true (length (f.spans line.content)) (length (f.spans line.content)) refl counted
-      (adds_none w t u (length (f.spans line.content)) alone same) in
-      let told = lines_told {E = Unit {0}} (Ok tt) w.print w t.course u.course true it out after (shown with_name name) (prints_alone w alone)
+      (adds_none w t u (length (f.spans line.content)) by_match same) in
+      let told = lines_told {E = Unit {0}} (Ok tt) w.print w t.course u.course true it out after (shown with_name name) (prints_some w by_match)
       (goes_on it) in
       line_told w.print w f name with_name t.course u.course t.count u.count (number_of w.print t) (number_of w.print u) true true line
       line (f.spans line.content) out after lines (selects_one w t.count plain may) seen (line_as_it_is w f line unreplaced)
       (spans_as_they_are w f line unreplaced) counted
       (λ flags items. told name with_name (number_of w.print t) (number_of w.print u) flags items refl number)
       ∙ append_assoc new (print_item w (shown with_name name) Selected it) (still_reported w f name with_name u lines)
-      ∙ ap (λ l. new ++ (l ++ still_reported w f name with_name u lines))
-      (shown_alone w (shown with_name name) line (f.spans line.content) alone)
 
   pub begun_counted : (t u : Reporter) (line : TextLine) (lines : List TextLine) → w.invert ≡ false → may_select w.most t.count ≡ true →
       true ≡ f.has_match line.content → u.count ≡ t.count + 1 → count_in_all w f u lines ≡ count_in_all w f t (line ∷ lines)
   begun_counted t u line lines plain may seen counted =
       line_counted w f t.count u.count true true line lines (selects_one w t.count plain may) seen counted
 
--- what is printed of its matches
-pub all_printed : (w : OutputOptions) (name : Option (List ℕ)) (line : TextLine) (found spans : List (ℕ × ℕ)) → w.invert ≡ false →
-    found ≡ spans → printed_matches w name Selected line spans ≡ flat_map (printed_match w name Selected line) found
-all_printed w name line found spans plain is =
-    ap (λ b. if not b then flat_map (printed_match w name Selected line) spans else []) plain
-    ∙ ap (flat_map (printed_match w name Selected line)) (sym is)
+-- ---- what is printed of its matches
+flat_map_same : {X A : Type 0} (f g : X → List A) → ((x : X) → f x ≡ g x) → (xs : List X) → flat_map f xs ≡ flat_map g xs
+flat_map_same f g same [] = refl
+flat_map_same f g same (x ∷ xs) = ap₂ (λ a b. a ++ b) (same x) (flat_map_same f g same xs)
+
+not_both : true ≡ false → ⊥
+not_both e = let z : ◌≡◌ {A = ℕ} 0 1 = ap (λ b. if b then 0 else 1) e in omega (arith, z)
+
+or_third : (a b d : Bool) → (a || b || true || d) ≡ true
+or_third true b d = refl
+or_third false true d = refl
+or_third false false d = refl
+
+shows_each : (w : OutputOptions) → w.each_match ≡ true → shows_matches w ≡ true
+shows_each w each =
+    ap (λ b. is_some w.color || w.columns || b || is_some w.replacement) each ∙ or_third (is_some w.color) w.columns (is_some w.replacement)
+
+chosen : {X : Type 0} (b : Bool) (x y z : X) → b ≡ false → (if b then x else z) ≡ (if b then y else z)
+chosen true x y z is = absurd (not_both is)
+chosen false x y z is = refl
+
+-- a line that isn't too long for any limit is printed for a match whatever its other matches are
+one_for : (w : OutputOptions) (name : Option (List ℕ)) (line : TextLine) (found : List (ℕ × ℕ)) (s : ℕ × ℕ) → PrintsEach w →
+    printed_for w name Selected line found s ≡ printed_one w name line s
+one_for w name line found s each =
+    ap (λ t. fields w name Selected line.number (column_of w s) (line.place + s.0) ++ t)
+    (chosen (is_long w line) (long_text w name Selected line.content.bytes (s ∷ []) found)
+    (long_text w name Selected line.content.bytes (s ∷ []) [])
+    (tab w name (trimmed w line.content.bytes) ++ (line_bytes w Selected (s ∷ []) line.content.bytes ++ w.terminator ∷ []))
+    (ap (λ o. exceeds o (length line.content.bytes + (if line.content.is_ended then 1 else 0))) each.unlimited))
+    ∙ sym (ap (λ p. printed_one_as p w name line s) each.lines)
+
+printed_each : (w : OutputOptions) (name : Option (List ℕ)) (line : TextLine) (found : List (ℕ × ℕ)) → PrintsEach w → w.invert ≡ false →
+    nat_lt 0 (length found) ≡ true → printed_line w name Selected line found ≡ flat_map (printed_one w name line) found
+printed_each w name line found each plain some =
+    ap (printed_with w name Selected line)
+    (ap₂ (λ a b. if a && not b then found else []) (shows_each w each.each) plain)
+    ∙ ap₂ (λ a b. if a && b then flat_map (printed_for w name Selected line found) found else printed_once w name Selected line found)
+    each.each some
+    ∙ flat_map_same (printed_for w name Selected line found) (printed_one w name line) (λ s. one_for w name line found s each) found
+
+printed_alone : (w : OutputOptions) (name : Option (List ℕ)) (line : TextLine) (found : List (ℕ × ℕ)) → w.print ≡ Matches → w.invert ≡ false →
+    printed_matches w name Selected line found ≡ flat_map (printed_one w name line) found
+printed_alone w name line found alone plain =
+    ap (λ b. if not b then flat_map (printed_match w name Selected line) found else []) plain
+    ∙ flat_map_same (printed_match w name Selected line) (printed_one w name line) (λ s. sym (ap (λ p. printed_one_as p w name line s) alone))
+    found
+
+pub all_printed : (w : OutputOptions) (name : Option (List ℕ)) (line : TextLine) (found spans : List (ℕ × ℕ)) → PrintsByMatch w →
+    w.invert ≡ false → nat_lt 0 (length spans) ≡ true → found ≡ spans →
+    print_item w name Selected (item line spans) ≡ flat_map (printed_one w name line) found
+all_printed w name line found spans (inl alone) plain some is =
+    ap (λ p. print_as p w name Selected (item line spans)) alone
+    ∙ printed_alone w name line spans alone plain
+    ∙ ap (flat_map (printed_one w name line)) (sym is)
+all_printed w name line found spans (inr each) plain some is =
+    ap (λ p. print_as p w name Selected (item line spans)) each.lines
+    ∙ printed_each w name line spans each plain some
+    ∙ ap (flat_map (printed_one w name line)) (sym is)
 
 -- ---- what is written of it, and then
 whole_of : (none out found piece old rest : List ℕ) → none ≡ [] → none ++ old ≡ out ++ (piece ++ rest) → piece ≡ found →
@@ -305,14 +358,40 @@ seen_by t s by line known =
     subst (λ (h : PatternOptions). true ≡ has_match_in by.how by.patterns (searched h.crlf line)) (sym by.same)
     (progress_by s (needs_spans t.what.now) by (searched s.how.crlf line) true known)
 
-pub found_in : (t : Task) (s : Sought) (by : SearchesBy t s) (line : SplitLine) → t.what.now.print ≡ Matches →
+needed : (w : OutputOptions) → PrintsByMatch w → needs_of w.print (shows_matches w) ≡ true
+needed w (inl alone) = ap (λ p. needs_of p (shows_matches w)) alone
+needed w (inr each) = ap (λ p. needs_of p (shows_matches w)) each.lines ∙ shows_each w each.each
+
+pub found_in : (t : Task) (s : Sought) (by : SearchesBy t s) (line : SplitLine) → PrintsByMatch t.what.now →
     spans_in s.how by.patterns (searched s.how.crlf line) ≡ (finds_by t by).spans line
-found_in t s by line alone =
+found_in t s by line by_match =
     ap (λ (h : PatternOptions). spans_in h by.patterns (searched h.crlf line)) (sym by.same)
-    ∙ sym (ap (λ p. if needs_of p (shows_matches t.what.now) then (found_by by).spans line else []) alone)
+    ∙ sym (ap (λ b. if b then (found_by by).spans line else []) (needed t.what.now by_match))
 
 pub read_by : (t : Task) (s : Sought) (by : SearchesBy t s) → AreReadAs (line_config s.how) s.texts by.patterns
 read_by t s by = subst (λ (h : PatternOptions). AreReadAs (line_config h) s.texts by.patterns) by.same by.are_read
+
+-- a line that has a match has a span
+positive : (n : ℕ) → 0 < n → nat_lt 0 n ≡ true
+positive n some = grind (arith, common_steps)
+
+following_some : (at : ℕ → Option (ℕ × ℕ)) (n : ℕ) (o : Option Match) → is_some o ≡ true →
+    nat_lt 0 (length (spans_following at (suc n) (option_map span_of_match o))) ≡ true
+following_some at n None is = absurd (not_both (sym is))
+following_some at n (Some m) is = positive (length (spans_following at (suc n) (option_map span_of_match (Some m)))) (omega arith)
+
+spans_some : (re : Re) (line : List ℕ) → is_some (find re line 0) ≡ true → nat_lt 0 (length (map span_of_match (find_all re line))) ≡ true
+spans_some re line is =
+    let more : length line + 1 ≡ suc (length line) = omega arith in
+    ap (λ l. nat_lt 0 (length l)) (spans_of_matches (find re line) (length line + 1) (find re line 0)
+    ∙ ap (λ n. spans_following (found_at re line) n (option_map span_of_match (find re line 0))) more)
+    ∙ following_some (found_at re line) (length line) (find re line 0) is
+
+pub some_by : (t : Task) (s : Sought) (by : SearchesBy t s) (line : SplitLine) → PrintsByMatch t.what.now →
+    IsMatchReported s.how s.texts (searched s.how.crlf line) true → nat_lt 0 (length ((finds_by t by).spans line)) ≡ true
+some_by t s by line by_match known =
+    subst (λ l. nat_lt 0 (length l) ≡ true) (found_in t s by line by_match)
+    (spans_some (line_pattern s.how by.patterns) (searched s.how.crlf line) (sym (known by.patterns (read_by t s by))))
 
 -- a line after which the next one is counted
 pub passed_lines : (t : Task) (f : LineMatcher) (p q : Progress) (telling : Reporter) (len : ℕ) (lines : List SplitLine) →

@@ -1,21 +1,42 @@
 -- What is found in a line from an offset on, and what is written of a line while its matches are searched for.
-use Rattle.std.specs.Prelude.{◌≡◌, ℕ, true, false, List, ◌++◌, Option, None}
+use Rattle.std.specs.Prelude.{◌≡◌, ◌⊎◌, ℕ, true, false, List, [], ◌++◌, Option, None}
 use Rattle.std.specs.Io.KnownBytes.{Appends}
 use Rattle.grep_core.specs.Blocks.{reported_bytes, counts_lines}
-use Rattle.line_search.specs.Lines.{SplitLine}
+use Rattle.line_search.specs.Lines.{SplitLine, TextLine}
 use Rattle.line_search.specs.LineMatchers.{LineMatcher}
+use Rattle.grep_core.specs.Printing.{printed_for, printed_match}
 use Rattle.grep_core.specs.Reporting.{may_select}
 use Rattle.line_search.specs.Searchers.{Sought}
 use Rattle.grep_core.specs.declared.output_options.OutputOptions.{OutputOptions}
-use Rattle.grep_core.specs.declared.output_options.Print.TheVariants.{Matches}
+use Rattle.grep_core.specs.declared.output_options.Print.{Print}
+use Rattle.grep_core.specs.declared.output_options.Print.TheVariants.{Lines, Matches}
 use Rattle.grep_core.specs.declared.progress.Progress.{Progress}
 use Rattle.grep_core.specs.declared.progress.Task.{Task}
+use Rattle.grep_core.specs.declared.role.Role.TheVariants.{Selected}
+
+-- Selected lines are printed once for each of their matches, however long they are. So what is printed for a match depends on no other.
+pub record PrintsEach (w : OutputOptions) : Type 0 where
+  pub lines : w.print ≡ Lines
+  pub each : w.each_match ≡ true
+  pub unlimited : w.most_bytes ≡ None
+
+-- What is printed for a match depends on no other match: the match alone is printed, or the line for it.
+abbrev pub PrintsByMatch : OutputOptions → Type 0
+PrintsByMatch w = (w.print ≡ Matches) ⊎ PrintsEach w
+
+-- What is printed for a match of a selected line then.
+abbrev pub printed_one_as : Print → OutputOptions → Option (List ℕ) → TextLine → ℕ × ℕ → List ℕ
+printed_one_as Matches w name line s = printed_match w name Selected line s
+printed_one_as _ w name line s = printed_for w name Selected line [] s
+
+abbrev pub printed_one : OutputOptions → Option (List ℕ) → TextLine → ℕ × ℕ → List ℕ
+printed_one w name line s = printed_one_as w.print w name line s
 
 -- The matches of a line that has one can be printed one after the other, if n lines were selected before it: it is selected, and its
--- matches are printed alone and as they are.
+-- matches are printed one by one and as they are.
 pub record MayWriteMatches (s : Sought) (w : OutputOptions) (n : ℕ) : Type 0 where
   pub spans : s.spans ≡ true
-  pub matches : w.print ≡ Matches
+  pub by_match : PrintsByMatch w
   pub plain : w.invert ≡ false
   pub unreplaced : w.replacement ≡ None
   pub may : may_select w.most n ≡ true

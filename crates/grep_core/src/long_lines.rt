@@ -1,17 +1,19 @@
-//! Prints the matches of long lines, one after the other. So the memory doesn't grow with the number of matches in a line.
-ghost use Rattle.std.specs.Prelude.{◌≡◌, ◌++◌, ◌∷◌, ◌≤◌, [], ℕ, Bool, List, IfErr, IfOk, IsTrue, None, OnOk, false, map, option_map, take, true};
+//! Prints the matches of long lines, or a long line for each of them, one after the other. So the memory doesn't grow with the number of
+//! matches in a line.
+ghost use Rattle.std.specs.Prelude.{◌≡◌, ◌++◌, ◌∷◌, ◌≤◌, [], ℕ, Bool, List, IfErr, IfOk, IsTrue, None, OnOk, false, length, map, nat_lt};
+ghost use Rattle.std.specs.Prelude.{option_map, take, true};
 ghost use Rattle.std.specs.List.{flat_map};
 ghost use Rattle.std.specs.Io.KnownBytes.{Appends};
 ghost use Rattle.regex_hir.specs.Re.{Re};
 ghost use Rattle.pattern_search.specs.Texts.{AreReadAs};
 ghost use Rattle.grep_core.specs.Blocks.{SearchesBy, finds_by, reported_bytes};
-ghost use Rattle.grep_core.specs.ContextPrinting.{Waits};
+ghost use Rattle.grep_core.specs.ContextPrinting.{Waits, item, print_item};
 ghost use Rattle.line_search.specs.Lines.{SplitLine, TextLine, searched};
 ghost use Rattle.line_search.specs.FoundSpans.{IsNextSpan};
-ghost use Rattle.grep_core.specs.LongLines.{MayWriteMatches, Sends, WritesLines};
+ghost use Rattle.grep_core.specs.LongLines.{MayWriteMatches, PrintsByMatch, PrintsEach, Sends, WritesLines, printed_one};
 ghost use Rattle.line_search.specs.Meant.{line_config};
 ghost use Rattle.line_search.specs.Patterns.{spans_in};
-ghost use Rattle.grep_core.specs.Printing.{printed_match, printed_matches, text_line};
+ghost use Rattle.grep_core.specs.Printing.{text_line};
 ghost use Rattle.line_search.specs.LineMatchers.{span_pair, LineMatcher};
 ghost use Rattle.grep_core.specs.Reporting.{count_in_all, may_select, shown, still_reported};
 ghost use Rattle.line_search.specs.Searchers.{IsMatchReported};
@@ -24,6 +26,7 @@ use crate::items::push_some;
 use crate::line::Line;
 use crate::looking::searched;
 use crate::output_options::{OutputOptions, Print};
+use crate::printing::push_for;
 use crate::progress::{Progress, Task, pass};
 use crate::reading::write_out;
 use crate::reporter::{Reporter, count_more, may_select, shown};
@@ -52,6 +55,24 @@ fn write_some<W: Write>(writer: &mut W, out: &mut Vec<u8>) -> Result<(), Fault>
     Ok(())
 }
 
+/// Appends what is printed for a match of a selected line: the match, or the line.
+fn push_one(
+    alloc: Global,
+    out: &mut Vec<u8>,
+    what: &OutputOptions<'_>,
+    name: Option<&[u8]>,
+    line: Line<'_>,
+    span: Span,
+) -> Result<(), Fault>
+    ensures { OnOk result (out.new.items ≡ out.old.items
+        ++ printed_one what.now (option_map (λ n. n.now) name.entry) (text_line line.entry) (span_pair span)) }
+{
+    match what.print {
+        Print::Matches => push_some(alloc, out, what, name, Role::Selected, line, span),
+        _ => push_for(alloc, out, what, name, Role::Selected, line, &[], span),
+    }
+}
+
 /// Prints a match of a selected line, and searches for the next one.
 fn write_match<W: Write>(
     alloc: Global,
@@ -68,13 +89,13 @@ fn write_match<W: Write>(
     ensures same { finder.new ≡ finder.old }
     ensures next { IfOk result (λ o. IsNextSpan finder.old.how finder.old.texts bytes.now span.end (option_map span_pair o)) }
     ensures sends { OnOk result (Sends (W.contents writer.old) (W.contents writer.new)
-        (out.old.items ++ printed_match what.now (option_map (λ n. n.now) name.entry) Selected (text_line line.entry) (span_pair span))
+        (out.old.items ++ printed_one what.now (option_map (λ n. n.now) name.entry) (text_line line.entry) (span_pair span))
         out.new.items) }
     ensures fault { IfErr result (λ _. (more : List ℕ) → (n : ℕ) × Appends (W.contents writer.old) (W.contents writer.new)
-        (take n ((out.old.items ++ printed_match what.now (option_map (λ n. n.now) name.entry) Selected (text_line line.entry)
+        (take n ((out.old.items ++ printed_one what.now (option_map (λ n. n.now) name.entry) (text_line line.entry)
         (span_pair span)) ++ more))) }
 {
-    match push_some(alloc, out, what, name, Role::Selected, line, span) {
+    match push_one(alloc, out, what, name, line, span) {
         Ok(()) => {}
         Err(e) => return Err(e),
     }
@@ -89,7 +110,7 @@ fn write_match<W: Write>(
     Ok(next)
 }
 
-/// Prints the matches of a selected line, each as a line of its own. What isn't written yet is left as the output.
+/// Prints the matches of a selected line, each as a line of its own, or the line for each. What isn't written yet is left as the output.
 fn write_matches<W: Write>(
     alloc: Global,
     writer: &mut W,
@@ -104,11 +125,11 @@ fn write_matches<W: Write>(
     ensures same { finder.new ≡ finder.old }
     ensures sends { OnOk result ((res : List Re) → AreReadAs (line_config finder.old.how) finder.old.texts res →
         Sends (W.contents writer.old) (W.contents writer.new) (out.old.items
-        ++ flat_map (printed_match what.now (option_map (λ n. n.now) name.entry) Selected (text_line line.entry))
+        ++ flat_map (printed_one what.now (option_map (λ n. n.now) name.entry) (text_line line.entry))
         (spans_in finder.old.how res bytes.now)) out.new.items) }
     ensures fault { IfErr result (λ _. (res : List Re) → AreReadAs (line_config finder.old.how) finder.old.texts res → (more : List ℕ) →
         (n : ℕ) × Appends (W.contents writer.old) (W.contents writer.new) (take n ((out.old.items
-        ++ flat_map (printed_match what.now (option_map (λ n. n.now) name.entry) Selected (text_line line.entry))
+        ++ flat_map (printed_one what.now (option_map (λ n. n.now) name.entry) (text_line line.entry))
         (spans_in finder.old.how res bytes.now)) ++ more))) }
 {
     let mut next = match finder.find_from(alloc, bytes, 0) {
@@ -140,11 +161,37 @@ pub(crate) fn prints_matches(what: &OutputOptions<'_>) -> bool
     }
 }
 
+/// Whether selected lines are printed once for each of their matches, however long they are and without replacing these.
+pub(crate) fn prints_each(what: &OutputOptions<'_>) -> bool
+    ensures each { IsTrue result → PrintsEach what.now }
+    ensures plain { IsTrue result → what.now.invert ≡ false }
+    ensures unreplaced { IsTrue result → what.now.replacement ≡ None }
+{
+    match what.print {
+        Print::Lines => {
+            what.each_match
+                && what.most_bytes.is_none()
+                && !what.invert
+                && what.replacement.is_none()
+        }
+        _ => false,
+    }
+}
+
+/// Whether what is printed for a match of a selected line depends on no other match.
+fn prints_by_match(what: &OutputOptions<'_>) -> bool
+    ensures by_match { IsTrue result → PrintsByMatch what.now }
+    ensures plain { IsTrue result → what.now.invert ≡ false }
+    ensures unreplaced { IsTrue result → what.now.replacement ≡ None }
+{
+    prints_matches(what) || prints_each(what)
+}
+
 /// Whether the matches of a line that has one can be printed one after the other, if this many lines were selected before it.
 fn may_write_matches(finder: &Finder<'_>, what: &OutputOptions<'_>, count: u64) -> bool
     ensures { IsTrue result → MayWriteMatches finder.now what.now count }
 {
-    if !finder.with_matches() || !prints_matches(what) {
+    if !finder.with_matches() || !prints_by_match(what) {
         return false;
     }
     may_select(what, count)
@@ -160,13 +207,13 @@ fn begin_matches(
     telling: &mut Reporter,
 ) -> Result<(), Fault>
     requires waits { Waits what.now telling.old.course }
-    requires matches { what.now.print ≡ Matches }
+    requires by_match { PrintsByMatch what.now }
     requires plain { what.now.invert ≡ false }
     requires unreplaced { what.now.replacement ≡ None }
     requires may { may_select what.now.most telling.old.count ≡ true }
     ensures goes_on { OnOk result ((f : LineMatcher) (line : TextLine) → true ≡ f.has_match line.content → (lines : List TextLine) →
         out.old.items ++ still_reported what.now f name.now with_name telling.old (line ∷ lines)
-        ≡ out.new.items ++ (printed_matches what.now (shown with_name name.now) Selected line (f.spans line.content)
+        ≡ out.new.items ++ (print_item what.now (shown with_name name.now) Selected (item line (f.spans line.content))
         ++ still_reported what.now f name.now with_name telling.new lines)) }
     ensures counts { OnOk result ((f : LineMatcher) (line : TextLine) → true ≡ f.has_match line.content → (lines : List TextLine) →
         count_in_all what.now f telling.new lines ≡ count_in_all what.now f telling.old (line ∷ lines)) }
@@ -191,7 +238,7 @@ fn begin_matches(
     }
 }
 
-/// Writes the output for a line that is selected and whose matches are printed. `bytes` are those that are searched.
+/// Writes the output for a line that is selected and whose matches are printed one after the other. `bytes` are those that are searched.
 fn write_selected<W: Write>(
     alloc: Global,
     writer: &mut W,
@@ -209,12 +256,12 @@ fn write_selected<W: Write>(
         count_in_all task.entry.what.now f telling.new lines ≡ count_in_all task.entry.what.now f telling.old (line ∷ lines)) }
     ensures writes { OnOk result ((f : LineMatcher) (res : List Re) → AreReadAs (line_config finder.old.how) finder.old.texts res →
         true ≡ f.has_match (text_line line.entry).content → spans_in finder.old.how res bytes.now ≡ f.spans (text_line line.entry).content →
-        (lines : List TextLine) → Sends (W.contents writer.old) (W.contents writer.new)
+        nat_lt 0 (length (f.spans (text_line line.entry).content)) ≡ true → (lines : List TextLine) → Sends (W.contents writer.old) (W.contents writer.new)
         (still_reported task.entry.what.now f task.entry.name.now task.entry.with_name telling.old (text_line line.entry ∷ lines))
         (still_reported task.entry.what.now f task.entry.name.now task.entry.with_name telling.new lines)) }
     ensures fault { IfErr result (λ _. (f : LineMatcher) (res : List Re) → AreReadAs (line_config finder.old.how) finder.old.texts res →
         true ≡ f.has_match (text_line line.entry).content → spans_in finder.old.how res bytes.now ≡ f.spans (text_line line.entry).content →
-        (lines : List TextLine) → (n : ℕ) × Appends (W.contents writer.old) (W.contents writer.new)
+        nat_lt 0 (length (f.spans (text_line line.entry).content)) ≡ true → (lines : List TextLine) → (n : ℕ) × Appends (W.contents writer.old) (W.contents writer.new)
         (take n (still_reported task.entry.what.now f task.entry.name.now task.entry.with_name telling.old (text_line line.entry ∷ lines)))) }
 {
     let mut out = Vec::new(alloc);
@@ -278,7 +325,7 @@ fn write_listed<W: Write>(
     }
 }
 
-/// Writes the output for a line that is selected and whose matches are printed. The line is given without its line feed.
+/// Writes the output for a line that is selected and whose matches are printed one after the other. The line is given without its line feed.
 fn write_found<W: Write>(
     alloc: Global,
     writer: &mut W,

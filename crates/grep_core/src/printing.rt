@@ -492,7 +492,7 @@ fn push_once(
 }
 
 /// Appends a line for one of the matches that are shown in it.
-fn push_for(
+pub(crate) fn push_for(
     alloc: Global,
     out: &mut Vec<u8>,
     what: &OutputOptions<'_>,

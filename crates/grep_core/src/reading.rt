@@ -15,12 +15,12 @@ ghost use Rattle.grep_core.specs.declared.progress.Task.{Task as TheTask};
 use crate::blocks::{report_block, report_one};
 use crate::context_printer::first_of;
 use crate::line_buffer::LineBuffer;
-use crate::long_lines::{prints_matches, write_line};
+use crate::long_lines::{prints_each, prints_matches, write_line};
 use crate::output_options::{OutputOptions, Print};
 use crate::progress::{Progress, Task};
 use crate::reporter::{Reporter, counted_as, is_over, report_end};
 use crate::separator_state::SeparatorState;
-use line_search::{Fault, Finder, feed_at};
+use line_search::{Fault, Finder, feed_at, line_start};
 use std::alloc::Global;
 use std::io::{ErrorKind, Read, Write};
 
@@ -29,6 +29,10 @@ const LONGEST: usize = 1 << 30;
 
 /// From this many bytes on, the matches of a line are printed one after the other. Those of shorter lines are listed first.
 const LONG: usize = 1 << 20;
+
+/// If lines are printed once for each of their matches, lines of this many bytes or more are printed while their matches are searched for.
+/// The output for shorter lines is written after at most so many bytes of them.
+const PIECE: usize = 4096;
 
 /// What follows a block.
 #[derive(Clone, Copy)]
@@ -106,10 +110,14 @@ fn report_lines<W: Write>(
     Ok(is_task_over(task, progress))
 }
 
-/// Whether an input is so long that the matches of its first line are printed one after the other, if matches are printed alone.
+/// Whether an input is so long that the matches of its first line are printed one after the other, if they are printed alone or the line is
+/// printed for each.
 fn begins_long(task: Task<'_>, read: &[u8]) -> bool
     ensures { IsTrue result → 0 < length read.now }
 {
+    if prints_each(task.what) {
+        return read.len() >= PIECE;
+    }
     read.len() >= LONG && prints_matches(task.what)
 }
 
@@ -147,6 +155,112 @@ fn write_first_line<W: Write>(
     Ok(len + 1)
 }
 
+/// Writes the output for the whole lines among the first bytes of an input. Returns how many bytes they have.
+fn write_piece<W: Write>(
+    alloc: Global,
+    writer: &mut W,
+    finder: &mut Finder<'_>,
+    task: Task<'_>,
+    read: &[u8],
+    progress: &mut Progress,
+    len: usize,
+) -> Result<usize, Fault>
+    requires waits { Waits task.what.now progress.old.telling.course }
+    requires within { len ≤ length read.now }
+    ensures same { finder.new ≡ finder.old }
+    ensures waits { OnOk result (Waits task.entry.what.now progress.new.telling.course) }
+    ensures within { IfOk result (λ done. done ≤ length read.now) }
+    ensures writes { IfOk result (λ done. (by : SearchesBy task.entry finder.old) (more : List ℕ) →
+        Writes task.entry (finds_by task.entry by) progress.old progress.new (read.now ++ more) (drop done read.now ++ more)
+        (W.contents writer.old) (W.contents writer.new)) }
+    ensures fault { IfErr result (λ _. (by : SearchesBy task.entry finder.old) (more : List ℕ) →
+        WritesPart task.entry (finds_by task.entry by) progress.old (read.now ++ more) (W.contents writer.old)
+        (W.contents writer.new)) }
+{
+    let mut out = Vec::new(alloc);
+    let done = match report_block(alloc, &mut out, finder, task, progress, &read[..len]) {
+        Ok(done) => done,
+        Err(e) => return Err(e),
+    };
+    match write_out(writer, &out) {
+        Ok(()) => Ok(done),
+        Err(e) => Err(e),
+    }
+}
+
+/// The length of the whole lines among the first bytes of an input, if lines are printed once for each of their matches, and else 0.
+fn piece_len(task: Task<'_>, read: &[u8]) -> usize
+    ensures { result ≤ length read.now }
+{
+    if !prints_each(task.what) {
+        return 0;
+    }
+    line_start(read, 0, PIECE)
+}
+
+/// Writes the output for the first lines of an input, or for one long line, if its matches may be printed while they are searched for. Returns
+/// the offset after them, or 0 if they are left to other calls.
+fn write_first<W: Write>(
+    alloc: Global,
+    writer: &mut W,
+    finder: &mut Finder<'_>,
+    task: Task<'_>,
+    read: &[u8],
+    progress: &mut Progress,
+) -> Result<usize, Fault>
+    requires { Waits task.what.now progress.old.telling.course }
+    ensures same { finder.new ≡ finder.old }
+    ensures waits { OnOk result (Waits task.entry.what.now progress.new.telling.course) }
+    ensures within { IfOk result (λ done. done ≤ length read.now) }
+    ensures writes { IfOk result (λ done. (by : SearchesBy task.entry finder.old) (more : List ℕ) →
+        Writes task.entry (finds_by task.entry by) progress.old progress.new (read.now ++ more) (drop done read.now ++ more)
+        (W.contents writer.old) (W.contents writer.new)) }
+    ensures fault { IfErr result (λ _. (by : SearchesBy task.entry finder.old) (more : List ℕ) →
+        WritesPart task.entry (finds_by task.entry by) progress.old (read.now ++ more) (W.contents writer.old)
+        (W.contents writer.new)) }
+{
+    let len = piece_len(task, read);
+    if len == 0 {
+        return write_first_line(alloc, writer, finder, task, read, progress);
+    }
+    write_piece(alloc, writer, finder, task, read, progress, len)
+}
+
+/// Writes the output for lines of an input as long as these are printed once for each of their matches, and for a first line that is long.
+/// Returns the offset after them. The others are left to other calls.
+fn write_beginning<W: Write>(
+    alloc: Global,
+    writer: &mut W,
+    finder: &mut Finder<'_>,
+    task: Task<'_>,
+    read: &[u8],
+    progress: &mut Progress,
+) -> Result<usize, Fault>
+    requires { Waits task.what.now progress.old.telling.course }
+    ensures same { finder.new ≡ finder.old }
+    ensures waits { OnOk result (Waits task.entry.what.now progress.new.telling.course) }
+    ensures within { IfOk result (λ done. done ≤ length read.now) }
+    ensures writes { IfOk result (λ done. (by : SearchesBy task.entry finder.old) (more : List ℕ) →
+        Writes task.entry (finds_by task.entry by) progress.old progress.new (read.now ++ more) (drop done read.now ++ more)
+        (W.contents writer.old) (W.contents writer.new)) }
+    ensures fault { IfErr result (λ _. (by : SearchesBy task.entry finder.old) (more : List ℕ) →
+        WritesPart task.entry (finds_by task.entry by) progress.old (read.now ++ more) (W.contents writer.old)
+        (W.contents writer.new)) }
+{
+    let mut done = 0usize;
+    for _pieces in 0..read.len() {
+        let next = match write_first(alloc, writer, finder, task, &read[done..], progress) {
+            Ok(next) => next,
+            Err(e) => return Err(e),
+        };
+        if next == 0 {
+            return Ok(done);
+        }
+        done += next;
+    }
+    Ok(done)
+}
+
 /// Removes the first bytes of the buffered input, if there are any to remove.
 fn forget_some(read: &mut LineBuffer, done: usize)
     requires { done ≤ length read.old }
@@ -157,8 +271,7 @@ fn forget_some(read: &mut LineBuffer, done: usize)
     }
 }
 
-/// Processes the whole lines of the buffered input, the first one while its matches are searched for if it is long. Returns whether nothing
-/// more is printed.
+/// Processes the whole lines of the buffered input, long ones while their matches are searched for. Returns whether nothing more is printed.
 fn report_read<W: Write>(
     alloc: Global,
     writer: &mut W,
@@ -178,7 +291,7 @@ fn report_read<W: Write>(
         WritesPart task.entry (finds_by task.entry by) progress.old (read.old ++ more) (W.contents writer.old)
         (W.contents writer.new)) }
 {
-    let done = match write_first_line(alloc, writer, finder, task, read.bytes(), progress) {
+    let done = match write_beginning(alloc, writer, finder, task, read.bytes(), progress) {
         Ok(done) => done,
         Err(e) => return Err(e),
     };

@@ -210,7 +210,7 @@ pub fn required_literals(alloc: Global, x: &Hir) -> Result<Required, AllocError>
     Ok(all)
 }
 
-/// The same of the spans of several trees.
+/// Literals of which each span of one of the trees contains one, and literals of which each begins with one.
 pub(crate) fn literals_of_all(alloc: Global, xs: &[Hir]) -> Result<Required, AllocError>
     ensures { IfOk result (λ r. IsRequired r (alternation xs.now)) }
 {

@@ -4,7 +4,7 @@ use Rattle.line_search.specs.Lines.{SplitLine, numbered, searched}
 use Rattle.grep_core.specs.LongLines.{Sends}
 use Rattle.line_search.specs.Patterns.{spans_in}
 use Rattle.grep_core.specs.Reporting.{still_reported}
-use Rattle.grep_core.proofs.LongLineLemmas.{all_begun, found_in, passed_counted, passed_lines, read_by, seen_by}
+use Rattle.grep_core.proofs.LongLineLemmas.{all_begun, found_in, passed_counted, passed_lines, read_by, seen_by, some_by}
 use Rattle.grep_core.proofs.long_lines.write_found.Goals as goal
 
 pub returns-in-Err-clause-fault : goal.returns-in-Err-clause-fault
@@ -14,7 +14,8 @@ returns-in-Err-clause-fault g c by lines =
     (seen_by c.args.task c.args.finder.now by line c.requires.known)
     (ap (spans_in c.args.finder.now.how by.patterns)
     (c.searched-text.ensures ∙ ap (λ (b : Bool). searched b line) c.crlf.ensures)
-    ∙ found_in c.args.task c.args.finder.now by line c.requires.may.matches)
+    ∙ found_in c.args.task c.args.finder.now by line c.requires.may.by_match)
+    (some_by c.args.task c.args.finder.now by line c.requires.may.by_match c.requires.known)
     (numbered (c.args.progress.now.number + 1) (c.args.progress.now.place + length c.args.bytes.now + 1) lines)
 
 pub returns-in-Ok-pass-clause-writes : goal.returns-in-Ok-pass-clause-writes
@@ -30,7 +31,8 @@ returns-in-Ok-pass-clause-writes g c by lines =
           (c.in-Ok.ensures.writes (finds_by c.args.task by) by.patterns (read_by c.args.task c.args.finder.now by) seen
           (ap (spans_in c.args.finder.now.how by.patterns)
           (c.searched-text.ensures ∙ ap (λ (b : Bool). searched b line) c.crlf.ensures)
-          ∙ found_in c.args.task c.args.finder.now by line c.requires.may.matches) next);
+          ∙ found_in c.args.task c.args.finder.now by line c.requires.may.by_match)
+          (some_by c.args.task c.args.finder.now by line c.requires.may.by_match c.requires.known) next);
       counted = passed_counted c.args.task (finds_by c.args.task by) c.args.progress.now c.pass.new.progress c.write_selected.new.telling
           (length c.args.bytes.now) lines c.in-Ok-pass.ensures.number c.in-Ok-pass.ensures.place c.in-Ok-pass.ensures.telling
           ∙ c.in-Ok.ensures.counts (finds_by c.args.task by)
@@ -49,4 +51,5 @@ returns-in-Err-pass-clause-fault g c by lines =
     (seen_by c.args.task c.args.finder.now by line c.requires.known)
     (ap (spans_in c.args.finder.now.how by.patterns)
     (c.searched-text.ensures ∙ ap (λ (b : Bool). searched b line) c.crlf.ensures)
-    ∙ found_in c.args.task c.args.finder.now by line c.requires.may.matches) next)
+    ∙ found_in c.args.task c.args.finder.now by line c.requires.may.by_match)
+    (some_by c.args.task c.args.finder.now by line c.requires.may.by_match c.requires.known) next)
