@@ -1,5 +1,5 @@
 //! Searches for one match with its groups.
-ghost use Rattle.std.specs.Prelude.{◌≡◌, ◌<◌, ◌≤◌, ◌∷◌, [], ℕ, List, Some, IfErr, IfNone, IfOk, length, replicate, slice_get, true};
+ghost use Rattle.std.specs.Prelude.{◌≡◌, ◌<◌, ◌≤◌, ◌∷◌, [], ℕ, List, Some, IfErr, IfNone, IfOk, false, length, replicate, slice_get, true};
 ghost use Rattle.regex_hir.specs.Re.{Re, Trace, accept, attempt};
 ghost use Rattle.regex_hir.specs.Meaning.{alt_all};
 ghost use Rattle.regex_hir.specs.Find.{Match};
@@ -186,9 +186,66 @@ impl Groups {
         }
     }
 
-    /// Writes the slots of a match that was found. Only slots after the first two need a search.
-    #[inline]
+    /// Writes the slots of the match that the pattern with a number has between two offsets, if that has a layout that was made. Returns whether
+    /// it has. Otherwise the slots are unchanged.
+    #[inline(always)]
+    fn write_by_layout(
+        &self,
+        haystack: &[u8],
+        pattern: usize,
+        start: usize,
+        end: usize,
+        slots: &mut [usize],
+    ) -> bool
+        ensures written { result ≡ true → (o : Options) (texts : List (List ℕ)) → AreGroupsOf o texts self.now → (text : List ℕ) (a : Re) →
+            slice_get texts pattern ≡ Some text → IsParsedAs o.syntax text a → (t : Trace) → attempt haystack.now a accept start ≡ Some t →
+            start ≤ t.end → t.end ≡ end → slots.new ≡ slots_of (record { start = start; trace = t }) (length slots.old) }
+        ensures kept { result ≡ false → slots.new ≡ slots.old }
+    {
+        if pattern >= self.patterns.len() {
+            return false;
+        }
+        if end > haystack.len() {
+            return false;
+        }
+        if start > end {
+            return false;
+        }
+        self.patterns[pattern].write_by_layout(haystack, start, end, slots)
+    }
+
+    /// Writes the slots of a match that was found.
+    #[inline(always)]
     pub(crate) fn write_slots(
+        &mut self,
+        alloc: Global,
+        haystack: &[u8],
+        found: FoundMatch,
+        slots: &mut [usize],
+    ) -> Result<(), CapturesError>
+        ensures written { (o : Options) (texts : List (List ℕ)) → AreGroupsOf o texts self.old → (res : List Re) →
+            AreReadAs o.syntax texts res → IsOfFirstPattern res haystack.now (as_found found) → (m : Match) →
+            span_of_match m ≡ span_of_row found → m.start ≤ length haystack.now →
+            attempt haystack.now (alt_all res) accept m.start ≡ Some m.trace →
+            IfOk result (λ _. slots.new ≡ slots_of m (length slots.old)) }
+        ensures own { (o : Options) (texts : List (List ℕ)) → AreGroupsOf o texts self.old → AreGroupsOf o texts self.new }
+        ensures cleared { IfErr result (λ _. slots.new ≡ replicate (length slots.old) no_offset) }
+        ensures refused { (o : Options) (texts : List (List ℕ)) → AreGroupsOf o texts self.old → (h : List ℕ) →
+            IfErr result (IsCapturesError o h) }
+    {
+        if self.write_by_layout(haystack, found.pattern, found.start, found.end, slots) {
+            return Ok(());
+        }
+        match self.search_slots(alloc, haystack, found, slots) {
+            Ok(()) => Ok(()),
+            Err(error) => Err(error),
+        }
+    }
+
+    /// Writes the slots of a match that was found. Only slots after the first two need a search. It is a call of its own, since its frame is
+    /// large, and matches of patterns with layouts don't need it.
+    #[inline(never)]
+    fn search_slots(
         &mut self,
         alloc: Global,
         haystack: &[u8],

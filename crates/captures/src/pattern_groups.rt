@@ -1,5 +1,5 @@
 //! The groups of one pattern.
-ghost use Rattle.std.specs.Prelude.{◌≡◌, ◌≤◌, ℕ, List, IfErr, IfNone, IfOk, IfSome, OnOk, Some, is_some, length, replicate, true};
+ghost use Rattle.std.specs.Prelude.{◌≡◌, ◌≤◌, ℕ, List, IfErr, IfNone, IfOk, IfSome, OnOk, Some, false, is_some, length, replicate, true};
 ghost use Rattle.regex_hir.specs.Re.{Re, Trace, accept, attempt};
 ghost use Rattle.meta_regex.specs.declared.options.Options.{Options};
 ghost use Rattle.group_finder.specs.Engines.{counted};
@@ -143,6 +143,28 @@ impl PatternGroups {
         match finder.groups_at(alloc, haystack, start, stop, slots) {
             Ok(end) => Ok(end),
             Err(_) => Err(CapturesError::NoMemory),
+        }
+    }
+
+    /// Writes the slots of the match that the pattern has between two offsets, if what finds them is made and has a layout. Returns whether it
+    /// does.
+    #[inline(always)]
+    pub(crate) fn write_by_layout(
+        &self,
+        haystack: &[u8],
+        start: usize,
+        end: usize,
+        slots: &mut [usize],
+    ) -> bool
+        requires ordered { (start ≤ end) × (end ≤ length haystack.now) }
+        ensures written { result ≡ true → (config : Config) (text : List ℕ) (a : Re) → IsPatternGroups config text self.now →
+            IsParsedAs config text a → (t : Trace) → attempt haystack.now a accept start ≡ Some t → t.end ≡ end →
+            slots.new ≡ slots_of (record { start = start; trace = t }) (length slots.old) }
+        ensures kept { result ≡ false → slots.new ≡ slots.old }
+    {
+        match &self.finder {
+            Some(finder) => finder.write_by_layout(haystack, start, end, slots),
+            None => false,
         }
     }
 

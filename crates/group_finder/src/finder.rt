@@ -221,7 +221,7 @@ fn layout_bytes_of(layout: &Option<Vec<Step>>) -> usize
 }
 
 impl GroupFinder {
-    ghost use Rattle.std.specs.Prelude.{IfNone, replicate};
+    ghost use Rattle.std.specs.Prelude.{IfNone, false, replicate, true};
     ghost use Rattle.group_finder.specs.Slots.{no_offset};
     ghost use Rattle.group_finder.specs.Patterns.{IsParsedAs};
     ghost use Rattle.group_finder.specs.Engines.{counted};
@@ -311,6 +311,30 @@ impl GroupFinder {
         }
     }
 
+    /// Writes the slots of the match that the pattern has from an offset up to its end, if the pattern has a layout: then no search is needed.
+    /// Returns whether it has one. Otherwise the slots are unchanged. `end` is the end of this match.
+    #[inline(always)]
+    pub fn write_by_layout(
+        &self,
+        haystack: &[u8],
+        start: usize,
+        end: usize,
+        slots: &mut [usize],
+    ) -> bool
+        requires ordered { (start ≤ end) × (end ≤ length haystack.now) }
+        ensures written { result ≡ true → (config : TextConfig) (text : List ℕ) (a : Re) → IsFinderOf config text self.now →
+            IsParsedAs config text a → (t : Trace) → attempt haystack.now a accept start ≡ Some t → t.end ≡ end →
+            slots.new ≡ slots_of (record { start = start; trace = t }) (length slots.old) }
+        ensures kept { result ≡ false → slots.new ≡ slots.old }
+    {
+        see_bytes(haystack);
+        let Some(steps) = &self.layout else {
+            return false;
+        };
+        slots_along(steps, haystack, start, end, slots);
+        true
+    }
+
     /// Writes the slots of the match that the pattern has from an offset up to its end, as [`groups_at`](GroupFinder::groups_at) does. `end`
     /// is the end of this match.
     #[inline]
@@ -330,9 +354,7 @@ impl GroupFinder {
         ensures own { (config : TextConfig) (text : List ℕ) → IsFinderOf config text self.old → IsFinderOf config text self.new }
         ensures same { automaton_of self.new ≡ automaton_of self.old }
     {
-        see_bytes(haystack);
-        if let Some(steps) = &self.layout {
-            slots_along(steps, haystack, start, end, slots);
+        if self.write_by_layout(haystack, start, end, slots) {
             return Ok(());
         }
         match self.groups_at(alloc, haystack, start, end, slots) {
