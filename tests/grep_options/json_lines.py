@@ -95,7 +95,7 @@ def report(patterns, text, o, name=b'f', quirks=frozenset(), time=(0, 0)):
             if grouped and not inv:
                 while j < len(lines) and sel[j]: j += 1
             a, b = lines[i][1], lines[j - 1][1] + whole(lines[j - 1])
-            inside = [] if inv else [(s - a, e - a) for s, e in found if a <= s and (s < b or (s == b == len(text) and not text.endswith(b'\n')))]
+            inside = [] if inv else [(max(s, a) - a, min(e, b) - a) for s, e in found if touches(s, e, (None, a, text[a:b - lines[j - 1][3]], lines[j - 1][3]))]
             if inv and 'alone' in q and multi:
                 inside = [(s - a, e - a) for s, e in matches(rx, text[:b + 128], a, strips) if s < b]
             if 'lines' in q and not multi and inv and multiline: inside = [(s - a, e - a) for s, e in found if a <= s < b]

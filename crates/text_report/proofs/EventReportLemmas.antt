@@ -17,7 +17,7 @@ use Rattle.grep_core.specs.Selecting.{roles_from}
 use Rattle.grep_core.specs.declared.output_options.OutputOptions.{OutputOptions}
 use Rattle.grep_core.specs.declared.role.Role.{Role}
 use Rattle.grep_core.specs.declared.role.Role.TheVariants.{Beside, Hidden, Selected}
-use Rattle.text_report.specs.EventCourse.{IsEventItem, line_items}
+use Rattle.text_report.specs.EventCourse.{IsEventItem}
 use Rattle.text_report.specs.Events.{EventItem, Printed, tally, ended_events, event_of, full_stats, line_item, line_past, no_stats, printed, printed_lines, shown_found, stats_of, with_event, with_events}
 use Rattle.text_report.specs.LineSpans.{line_of, lines_from, whole_end}
 use Rattle.text_report.specs.Records.{records_of}
@@ -67,53 +67,6 @@ past_is text line ordered inside =
     (let size : length (slice_range text line.start line.end) ≡ line.end - line.start =
     length-take-le (line.end - line.start) (drop line.start text) (omega (arith, length-drop line.start text, inside)) in
     omega (arith, size, ordered))
-
-pub line_is_item : (w : OutputOptions) (f : LineMatcher) (role : Role) (text : List ℕ) (line : LineSpan) (item : Item) →
-    line.start ≤ line.end → line.end ≤ length text → item.number ≡ line.number → item.place ≡ line.start →
-    item.bytes.now ≡ slice_range text line.start (whole_end line) →
-    map span_pair item.found.now ≡ shown_found w role (f.spans (line_of text line).content) → item.lines ≡ 1 →
-    IsEventItem w role item (line_item f text (line_of text line))
-line_is_item w f role text line item ordered inside number place bytes found lines = record {
-  number = number;
-  place = place;
-  bytes = bytes ∙ ap (slice_range text line.start) (sym (past_is text line ordered inside));
-  found = found;
-  lines = lines;
-}
-
-pub one_line : (w : OutputOptions) (name : List ℕ) (f : LineMatcher) (text : List ℕ) (rs0 rs : List Role) (role : Role) (n m at next : ℕ)
-    (line : LineSpan) (p q : Printed) → rs0 ≡ role ∷ rs →
-    lines_from w.terminator text n at ≡ line_of text line ∷ lines_from w.terminator text (n + 1) next → m ≡ n + 1 →
-    q ≡ with_event w name role (line_item f text (line_of text line)) p →
-    with_events w name rs0 (line_items w f text n at) p ≡ with_events w name rs (line_items w f text m next) q
-one_line w name f text rs0 rs role n m at next line p q first lines on is =
-    ap₂ (λ r ls. with_events w name r (map (line_item f text) ls) p) first lines
-    ∙ ap₂ (λ k it. with_events w name rs (line_items w f text k next) it) (sym on) (sym is)
-
--- after the last line
-pub all_lines : (w : OutputOptions) (name : List ℕ) (f : LineMatcher) (text : List ℕ) (rs : List Role) (n at : ℕ) (p q : Printed) →
-    length text ≤ at → with_events w name rs (line_items w f text n at) p ≡ q → p ≡ q
-all_lines w name f text rs n at p q past kept =
-    sym (no_items w name rs (line_items w f text n at) p
-    (ap (map (line_item f text)) (none_from w.terminator text n at (drop_of_length-le text past))))
-    ∙ kept
-
--- before the first line
-pub first_line_of : (w : OutputOptions) (name : List ℕ) (items : List EventItem) (flags : List Bool) (left : ℕ) (p : Printed) →
-    left ≡ first_of w.context →
-    with_events w name (roles_from (before_of w.context) (after_of w.context) left flags) items p
-    ≡ with_events w name (roles_of w flags) items p
-first_line_of w name items flags left p e =
-    ap (λ n. with_events w name (roles_from (before_of w.context) (after_of w.context) n flags) items p) e
-
-pub begun_lines : (w : OutputOptions) (f : LineMatcher) (name text : List ℕ) (flags : List Bool) (none out : List ℕ) (p : Printed) →
-    none ≡ [] → out ≡ none ++ as_line (begin_event name) → flags ≡ selected w f (records_of w text) →
-    p ≡ with_events w name (roles_of w flags) (line_items w f text 1 0) (printed out (tally 0 0 0)) →
-    p ≡ printed_lines w f name text
-begun_lines w f name text flags none out p empty begun are is =
-    is
-    ∙ ap₂ (λ fs bs. with_events w name (roles_of w fs) (line_items w f text 1 0) (printed bs (tally 0 0 0))) are
-    (begun ∙ ap (λ bs. bs ++ as_line (begin_event name)) empty)
 
 -- ---- the end of a text
 module _ (w : OutputOptions) (name : List ℕ) (time : Elapsed) (size : ℕ) (out : List ℕ) (c : Counts) (p : Printed) (is : printed out c ≡ p) where

@@ -1,4 +1,7 @@
 mod EventLemmas
+mod EventLineLemmas
+mod EventLoopLemmas
+mod EventPieceLemmas
 mod EventReportLemmas
 mod LineLemmas
 mod LineMatchLemmas
@@ -7,5 +10,6 @@ mod RecordLemmas
 mod RecordRows
 mod ReportLemmas
 mod SeenLemmas
+mod TouchedLemmas
 mod TouchingLemmas
 mod WholeTextLemmas

@@ -13,7 +13,7 @@ use Rattle.text_report.specs.Touching.{StartInOrder}
 
 module _ (s : Sought) (by : SearchesFor s true) (text : List ℕ) (crlf : Bool) (all found : List Span) (crlf_is : crlf ≡ s.how.crlf)
     (same : all ≡ found) (reported : s.spans ≡ true → AreReported s.how s.texts text (map span_pair found)) where
-  spans_are : map span_pair all ≡ spans_in by.how by.patterns text
+  pub spans_are : map span_pair all ≡ spans_in by.how by.patterns text
   spans_are =
       ap (λ (l : List Span). map span_pair l) same
       ∙ subst (λ (h : PatternOptions). AreReported h s.texts text (map span_pair found)) (sym by.same) (reported (by.may refl))

@@ -4,4 +4,5 @@ pub mod TextProgress
 pub mod TextReports
 pub mod Touching
 pub mod Events
+pub mod TextEvents
 pub mod EventCourse

@@ -143,7 +143,8 @@ fn report_next(
     ensures goes_on { OnOk result (StartInOrder (matches_of_task task.entry) → AreBefore task.entry.found.now progress.old.at.first progress.old.at.place →
         ReportsLines task.entry progress.old progress.new out.old.items out.new.items) }
 {
-    let Some(seen) = next_line(task.text, task.found, by_starts(task.what), progress.at) else {
+    let begun = by_starts(task.what);
+    let Some(seen) = next_line(task.text, b'\n', task.found, begun, progress.at) else {
         return Ok(false);
     };
     report_seen(alloc, out, task, &mut progress.telling, seen)?;

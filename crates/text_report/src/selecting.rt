@@ -52,7 +52,7 @@ fn is_line_selected(
 }
 
 /// Counts a selected line.
-fn count_more(count: u64, is_selected: bool) -> Result<u64, Fault>
+pub(crate) fn count_more(count: u64, is_selected: bool) -> Result<u64, Fault>
     ensures { IfOk result (λ n. n ≡ count + (if is_selected then 1 else 0)) }
 {
     if !is_selected {

@@ -40,17 +40,24 @@ pub fn first_position() -> TextPosition
     }
 }
 
-/// The next line of a text, if there is one, and whether a match counts for it. The matches of the text are in order.
-pub fn next_line(text: &[u8], found: &[Span], begun: bool, at: TextPosition) -> Option<SeenLine>
+/// The next line of a text, if there is one, and whether a match counts for it. `terminator` is the byte that ends lines. The matches of the
+/// text are in order.
+pub fn next_line(
+    text: &[u8],
+    terminator: u8,
+    found: &[Span],
+    begun: bool,
+    at: TextPosition,
+) -> Option<SeenLine>
     requires { at.place ≤ length text.now }
-    ensures none { IfNone result (lines_from 10 text.now at.number at.place ≡ []) }
-    ensures some { IfSome result (λ seen. IsLineAt 10 text.now at.number at.place seen.line) }
+    ensures none { IfNone result (lines_from terminator text.now at.number at.place ≡ []) }
+    ensures some { IfSome result (λ seen. IsLineAt terminator text.now at.number at.place seen.line) }
     ensures first { IfSome result (λ seen. AreBefore found.now at.first at.place → AreBefore found.now seen.first seen.line.start) }
     ensures has { IfSome result (λ seen. StartInOrder (map span_pair found.now) → AreBefore found.now at.first at.place →
         seen.has ≡ has_match_of begun (map span_pair found.now) (line_of text.now seen.line)) }
 {
     let (number, place, from) = (at.number, at.place, at.first);
-    let Some(line) = line_at(text, b'\n', number, place) else {
+    let Some(line) = line_at(text, terminator, number, place) else {
         return None;
     };
     let first = first_touching(found, from, line.start);

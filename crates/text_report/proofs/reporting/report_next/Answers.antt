@@ -15,7 +15,7 @@ returns-clause-goes_on c order before =
     let seen = c.in-Some.seen in
     let next = c.in_ok-progress.ensures in
     let far : AreBefore t.found.now seen.first seen.line.start = c.in-Some.ensures.first before in
-    let has = c.in-Some.ensures.has order before ∙ ap (λ b. has_match_of b (matches_of_task t) (line_of t.text.now seen.line)) c.by_starts.ensures in
+    let has = c.in-Some.ensures.has order before ∙ ap (λ b. has_match_of b (matches_of_task t) (line_of t.text.now seen.line)) c.by_starts-begun.ensures in
     reports_one t c.args.progress.now (record { at = c.in_ok-progress.field-0; telling = c.report_seen.new.telling }) seen.line
     c.args.out.now.items c.report_seen.new.out.items c.in-Some.ensures.some (ap (λ (q : TextPosition). q.number) next)
     (ap (λ (q : TextPosition). q.place) next)

@@ -1,5 +1,5 @@
 use Rattle.text_report.proofs.EventReportLemmas.{whole_part}
-use Rattle.text_report.proofs.events.write_all.Goals as goal
+use Rattle.text_report.proofs.event_reports.write_all.Goals as goal
 
 pub returns-in-Err-flush-clause-part : goal.returns-in-Err-flush-clause-part
 returns-in-Err-flush-clause-part g c =
