@@ -93,9 +93,14 @@ fn try_at(parts: &[Part], haystack: &[u8], start: usize) -> Attempt
     }
 }
 
-/// What a try in vain costs that read up to this offset.
-fn price_of(start: usize, read: usize) -> usize {
-    read.saturating_sub(start).saturating_add(FAILED)
+/// What a try in vain costs that read up to this offset. The first one of a search costs nothing if it read little: no literal was searched
+/// for, and searches of short haystacks would soon leave out literals.
+fn price_of(start: usize, read: usize, is_first: bool) -> usize {
+    let read = read.saturating_sub(start);
+    if is_first {
+        return read.saturating_sub(FAILED);
+    }
+    read.saturating_add(FAILED)
 }
 
 impl Sequence {
@@ -159,7 +164,7 @@ impl Sequence {
                     return NextRun::Found(start, end);
                 }
                 Attempt::Nowhere { last, read } => {
-                    effort.charge(price_of(start, read));
+                    effort.charge(price_of(start, read, start == from));
                     if last == haystack.len() {
                         return NextRun::Missing;
                     }
