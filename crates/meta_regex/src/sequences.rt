@@ -24,6 +24,10 @@ const GAIN: usize = 160;
 /// A try in vain costs as much as a search by automata of so many bytes, and of as many as it reads.
 const FAILED: usize = 24;
 
+/// A try that gives up costs as much as a search by automata of so many bytes, which begins there: where that is common, automata are as
+/// good alone.
+const GAVE_UP: usize = 128;
+
 /// A pattern as parts.
 #[derive(Drop)]
 pub(crate) struct Sequence {
@@ -170,7 +174,10 @@ impl Sequence {
                     }
                     at = last + 1;
                 }
-                Attempt::GaveUp => return NextRun::From(start),
+                Attempt::GaveUp => {
+                    effort.charge(GAVE_UP);
+                    return NextRun::From(start);
+                }
             }
         }
         NextRun::From(at)
