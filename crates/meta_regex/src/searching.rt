@@ -422,9 +422,9 @@ impl Regex {
         }
     }
 
-    /// A search without automata, as far as one is known.
+    /// The rest of a search where no match was found without automata.
     #[inline(never)]
-    fn search_directly(
+    fn search_further(
         &self,
         alloc: Global,
         cache: &mut Cache,
@@ -451,6 +451,34 @@ impl Regex {
             };
         }
         match self.search_by_automata(alloc, cache, haystack, start) {
+            Ok(found) => Ok(found),
+            Err(e) => Err(e),
+        }
+    }
+
+    /// A search without automata, as far as one is known.
+    #[inline(never)]
+    fn search_directly(
+        &self,
+        alloc: Global,
+        cache: &mut Cache,
+        haystack: &[u8],
+        from: usize,
+    ) -> Result<Option<FoundMatch>, SearchError>
+        requires own { IsCacheOf self.now cache.old }
+        requires within { from ≤ length haystack.now }
+        requires valid { (config_by self.now).utf8 ≡ true → IsValidText haystack.now }
+        ensures own { IsCacheOf self.now cache.new }
+        ensures found { IfOk result (HasFoundStart (config_by self.now) self.now.texts haystack.now from) }
+        ensures preferred { self.now.loops ≡ true → IfOk result (HasFoundSpan (config_by self.now) self.now.texts haystack.now from) }
+        ensures refused { IfErr result (IsSearchError (config_by self.now) haystack.now) }
+    {
+        let start = match self.sought_directly(cache, haystack, from) {
+            Sought::Found(found) => return Ok(Some(found)),
+            Sought::Missing => return Ok(None),
+            Sought::From(start) => start,
+        };
+        match self.search_further(alloc, cache, haystack, start) {
             Ok(found) => Ok(found),
             Err(e) => Err(e),
         }

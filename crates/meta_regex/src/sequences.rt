@@ -24,6 +24,10 @@ const GAIN: usize = 160;
 /// A try in vain costs as much as a search by automata of so many bytes, and of as many as it reads.
 const FAILED: usize = 24;
 
+/// A try that gives up costs as much as a search by automata of so many bytes, which begins there: where that is common, automata are as
+/// good alone.
+const GAVE_UP: usize = 128;
+
 /// A pattern as parts.
 #[derive(Drop)]
 pub(crate) struct Sequence {
@@ -93,9 +97,14 @@ fn try_at(parts: &[Part], haystack: &[u8], start: usize) -> Attempt
     }
 }
 
-/// What a try in vain costs that read up to this offset.
-fn price_of(start: usize, read: usize) -> usize {
-    read.saturating_sub(start).saturating_add(FAILED)
+/// What a try in vain costs that read up to this offset. The first one of a search costs nothing if it read little: no literal was searched
+/// for, and searches of short haystacks would soon leave out literals.
+fn price_of(start: usize, read: usize, is_first: bool) -> usize {
+    let read = read.saturating_sub(start);
+    if is_first {
+        return read.saturating_sub(FAILED);
+    }
+    read.saturating_add(FAILED)
 }
 
 impl Sequence {
@@ -159,13 +168,16 @@ impl Sequence {
                     return NextRun::Found(start, end);
                 }
                 Attempt::Nowhere { last, read } => {
-                    effort.charge(price_of(start, read));
+                    effort.charge(price_of(start, read, start == from));
                     if last == haystack.len() {
                         return NextRun::Missing;
                     }
                     at = last + 1;
                 }
-                Attempt::GaveUp => return NextRun::From(start),
+                Attempt::GaveUp => {
+                    effort.charge(GAVE_UP);
+                    return NextRun::From(start);
+                }
             }
         }
         NextRun::From(at)
