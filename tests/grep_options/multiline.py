@@ -219,6 +219,7 @@ def report(patterns, text, o, quirks=frozenset()):
             if is_long(whole(line)): return omission(count)
             return marked(marks)
         shown = len(spans)
+        if o.get('vimgrep') and not inv: shown = sum(1 for m in mine if begins_in(m[0], line))  # those that are printed
         if 'omitted' in q and block and has_marks and not inv: shown = len(block[2])
         if not (o.get('column') or o.get('color') or o.get('vimgrep')) and not o.get('o'): shown = 0
         if o.get('o') and not ('last' in q and (block and not block[2] if multi else touched[i] and not mine)):
