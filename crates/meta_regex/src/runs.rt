@@ -244,6 +244,7 @@ impl Run {
     }
 
     /// The next match from this offset on.
+    #[inline(always)]
     pub(crate) fn next(&self, haystack: &[u8], from: usize) -> NextRun
         requires { from ≤ length haystack.now }
         ensures { (x : Tree) → IsRunOf self.now x → IsNextRun x haystack.now from result }

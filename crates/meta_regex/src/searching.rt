@@ -369,6 +369,7 @@ impl Regex {
     }
 
     /// The next match, if it is found without automata. Otherwise it returns where a search has to begin.
+    #[inline(always)]
     fn sought_directly(&self, cache: &mut Cache, haystack: &[u8], from: usize) -> Sought
         requires own { IsCacheOf self.now cache.old }
         requires within { from ≤ length haystack.now }

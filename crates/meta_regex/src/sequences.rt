@@ -123,7 +123,8 @@ impl Sequence {
     }
 
     /// The next offset at which a match may start, by these literals with which each match begins, or by its first byte. Where a search
-    /// begins, the last match often ended, and the next one starts at once: so no literal is searched for if the byte there may begin one.
+    /// begins that isn't the first one, the last match often ended, and the next one starts at once: so no literal is searched for if the byte
+    /// there may begin one.
     #[inline(always)]
     fn next_start(
         &self,
@@ -147,6 +148,7 @@ impl Sequence {
     }
 
     /// The next match from this offset on, as long as tries pay.
+    #[inline(always)]
     pub(crate) fn next(
         &self,
         literals: Option<&CandidateFinder>,
@@ -157,9 +159,16 @@ impl Sequence {
         requires { from ≤ length haystack.now }
         ensures { (x : Tree) → IsSequenceOf self.now x → IfSome literals.entry (λ f. IsBegunBy f.now x) → IsNextRun x haystack.now from result }
     {
+        let is_later = 0 < from;
         let mut at = from;
         while effort.pays() {
-            let Some(start) = self.next_start(literals, effort, haystack, at, at == from) else {
+            let Some(start) = self.next_start(
+                literals,
+                effort,
+                haystack,
+                at,
+                is_later && at == from,
+            ) else {
                 return NextRun::Missing;
             };
             match try_at(&self.parts, haystack, start) {
@@ -168,7 +177,7 @@ impl Sequence {
                     return NextRun::Found(start, end);
                 }
                 Attempt::Nowhere { last, read } => {
-                    effort.charge(price_of(start, read, start == from));
+                    effort.charge(price_of(start, read, is_later && start == from));
                     if last == haystack.len() {
                         return NextRun::Missing;
                     }

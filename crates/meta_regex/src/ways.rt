@@ -85,6 +85,7 @@ impl Way {
     }
 
     /// The next match from this offset on, or where automata have to begin.
+    #[inline(always)]
     pub(crate) fn next(
         &self,
         starts: &LiteralStarts,
