@@ -68,6 +68,23 @@ ROWS = [
         b'{"data":{"elapsed_total":{"human":"0.000000s","nanos":0,"secs":0},"stats":{"bytes_printed":222,"bytes_searched":23,'
         b'"elapsed":{"human":"0.000000s","nanos":0,"secs":0},"matched_lines":1,"matches":1,"searches":1,"searches_with_match":1}},"type":"summary"}\n',
     ),
+    # adjacent lines that a match touches are one event
+    (
+        ("--json", "--multiline", r"ab\nab", "lines"),
+        0,
+        EVENT % (b"begin", b"lines")
+        + b"}}\n"
+        + EVENT % (b"match", b"lines")
+        + b',"lines":{"text":"one ab\\nab two\\n"},"line_number":1,"absolute_offset":0,'
+        b'"submatches":[{"match":{"text":"ab\\nab"},"start":4,"end":9}]}}\n'
+        + EVENT % (b"end", b"lines")
+        + b',"binary_offset":null,"stats":{"elapsed":'
+        + NO_TIME
+        + b',"searches":1,"searches_with_match":1,"bytes_searched":23,"bytes_printed":233,"matched_lines":2,"matches":1}}}\n'
+        b'{"data":{"elapsed_total":{"human":"0.000000s","nanos":0,"secs":0},"stats":{"bytes_printed":233,"bytes_searched":23,'
+        b'"elapsed":{"human":"0.000000s","nanos":0,"secs":0},"matched_lines":2,"matches":1,"searches":1,"searches_with_match":1}},"type":"summary"}\n',
+    ),
+    (("--json", "--multiline", "-q", r"ab\nab", "lines"), 0, b""),
     # inputs that are too large
     (("--multiline", "--max-size=3000", "-c", "ab", "large"), 0, b"1000\n"),
     (("--multiline", "--max-size=2999", "-c", "ab", "large", "returns"), 2, b"returns:2\n"),
@@ -78,7 +95,6 @@ REJECTED = [
     ("-z", "--multiline", "ab"),
     ("-z", "--json", "ab"),
     ("--multiline", "--replace=x", "ab"),
-    ("--json", "--multiline", "ab"),
     ("--json", "-c", "ab"),
     ("--json", "--count-matches", "ab"),
     ("--json", "-l", "ab"),
@@ -144,14 +160,12 @@ def compare_multiline(program, place, run, tell, rng):
 
 def compare_json(program, place, run, tell, rng):
     pats, texts, o = json_lines.json_case(rng)
-    while o.get("U"):
-        pats, texts, o = json_lines.json_case(rng)
     texts = [(name, text) for name, text in texts if json_lines.is_utf8(name)] or [(b"f", texts[0][1])]
     for name, text in texts:
         with open(os.path.join(place.encode(), name), "wb") as file:
             file.write(text)
     words = ["--json", *("--crlf" if it == "crlf" else f"-{it}" for it in o["how"])]
-    words += [word for name, word in (("v", "-v"), ("passthru", "--passthru"), ("N", "-N"), ("q", "-q")) if o.get(name)]
+    words += [word for name, word in (("U", "--multiline"), ("v", "-v"), ("passthru", "--passthru"), ("N", "-N"), ("q", "-q")) if o.get(name)]
     words += [it for it in o["rest"] if it != "-rX"]
     words += [it for name in "mAB" if o.get(name) is not None for it in (f"-{name}", str(o[name]))]
     words += [it for p in pats for it in ("-e", p.decode())]

@@ -357,8 +357,7 @@ text_options =
 abbrev pub json_option : OptionRow
 json_option = record (flag (codes "json") []) {
   turns_off = codes "no-json" ∷ [];
-  excludes = codes "count" ∷ codes "count-matches" ∷ codes "files" ∷ codes "files-with-matches" ∷ codes "files-without-match"
-      ∷ codes "multiline" ∷ [];
+  excludes = codes "count" ∷ codes "count-matches" ∷ codes "files" ∷ codes "files-with-matches" ∷ codes "files-without-match" ∷ [];
 }
 
 -- JSON instead of lines. Of these two the later one takes effect.

@@ -67,7 +67,6 @@ fn push_json<'a>(alloc: Global, args: &mut Vec<Arg<'a>>) -> Result<(), AllocErro
     let arg = excluding(arg, "files")?;
     let arg = excluding(arg, "files-with-matches")?;
     let arg = excluding(arg, "files-without-match")?;
-    let arg = excluding(arg, "multiline")?;
     push_over(args, arg, "no-json")
 }
 

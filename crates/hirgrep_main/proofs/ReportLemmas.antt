@@ -17,7 +17,7 @@ use Rattle.hirgrep_main.specs.Binaries.{first_len, has_zero, is_binary, notices,
 use Rattle.hirgrep_main.specs.Readings.{is_by_lines, lists_in}
 use Rattle.hirgrep_main.specs.Tasks.{IsInputReported, ReadPatterns, patterns_by}
 use Rattle.hirgrep_main.specs.declared.reading.Reading.{Reading}
-use Rattle.hirgrep_main.specs.declared.reading.Reading.TheVariants.{Lines, Records, Text, Events}
+use Rattle.hirgrep_main.specs.declared.reading.Reading.TheVariants.{Lines, Records, Text, Events, TextEvents}
 
 noticed : (c : Bool) (w : OutputOptions) → needs_spans (if c then record w { print = Nothing } else w) ≡ true → needs_spans w ≡ true
 noticed true w e = cc
@@ -28,6 +28,7 @@ listed Lines c w e = noticed c w e
 listed Records c w e = noticed c w e
 listed Text c w e = refl
 listed Events c w e = refl
+listed TextEvents c w e = refl
 
 pub searches_by : (r : Reading) (b : Binary) (zero : Bool) (w : OutputOptions) (s : Sought) → SearchesFor s (lists_in r w)
     → SearchesFor s (lists_in r (options_by b zero w))
@@ -47,6 +48,7 @@ by_lines Lines e = refl
 by_lines Records e = cc
 by_lines Text e = cc
 by_lines Events e = cc
+by_lines TextEvents e = cc
 
 -- What the search of an input returned, as one record.
 gathered : (o old new : Option (List ℕ)) (r : Result ℕ Fault) (all whole : List ℕ → List ℕ) (count : List ℕ → ℕ)

@@ -8,12 +8,12 @@ use Rattle.grep_core.specs.Reporting.{needs_spans, prints_lines}
 use Rattle.grep_core.specs.declared.output_options.OutputOptions.{OutputOptions}
 use Rattle.hirgrep_main.specs.declared.asked.Asked.{Asked}
 use Rattle.hirgrep_main.specs.declared.reading.Reading.{Reading}
-use Rattle.hirgrep_main.specs.declared.reading.Reading.TheVariants.{Lines, Records, Text, Events}
+use Rattle.hirgrep_main.specs.declared.reading.Reading.TheVariants.{Lines, Records, Text, Events, TextEvents}
 
--- -z, --multiline, --json: no two of them go together. The last one decides how lines are printed, and with -q none is.
+-- -z, --multiline, --json: the first one goes with none of the others. The last one decides how lines are printed, and with -q none is.
 abbrev pub reading_given : Found → Reading
 reading_given f =
-    if is_set f (codes "json") && not (is_set f (codes "quiet")) then Events
+    if is_set f (codes "json") && not (is_set f (codes "quiet")) then (if is_set f (codes "multiline") then TextEvents else Events)
     else if is_set f (codes "multiline") then Text
     else if is_set f (codes "null-data") then Records
     else Lines
@@ -32,6 +32,7 @@ lists_all Lines = false
 lists_all Records = false
 lists_all Text = true
 lists_all Events = true
+lists_all TextEvents = true
 
 -- Where matches are is asked for, and not only whether there are any.
 abbrev pub lists_in : Reading → OutputOptions → Bool
@@ -45,6 +46,7 @@ prints_json Lines = false
 prints_json Records = false
 prints_json Text = false
 prints_json Events = true
+prints_json TextEvents = true
 
 -- --json, -q: a summary is printed at the end.
 abbrev pub prints_summary : Asked → Bool
@@ -56,3 +58,4 @@ is_by_lines Lines = true
 is_by_lines Records = false
 is_by_lines Text = false
 is_by_lines Events = false
+is_by_lines TextEvents = false

@@ -16,12 +16,13 @@ use Rattle.grep_core.specs.Report.{counted_as, report, selected_count}
 use Rattle.text_report.specs.Records.{report_records, selected_records}
 use Rattle.text_report.specs.TextReports.{report_text, selected_in_text}
 use Rattle.text_report.specs.Events.{json_report, json_stats}
+use Rattle.text_report.specs.TextEvents.{json_of_text, json_text_stats}
 use Rattle.hirgrep_main.specs.Binaries.{is_binary, options_by, searched_bytes}
 use Rattle.hirgrep_main.specs.Decisions.{is_headed}
 use Rattle.hirgrep_main.specs.Outcomes.{known_of}
 use Rattle.hirgrep_main.specs.Totals.{no_time}
 use Rattle.hirgrep_main.specs.declared.reading.Reading.{Reading}
-use Rattle.hirgrep_main.specs.declared.reading.Reading.TheVariants.{Lines, Records, Text, Events}
+use Rattle.hirgrep_main.specs.declared.reading.Reading.TheVariants.{Lines, Records, Text, Events, TextEvents}
 use Rattle.hirgrep_main.specs.declared.outcome.Outcome.{Outcome}
 use Rattle.hirgrep_main.specs.declared.task.Task.{Task}
 
@@ -52,12 +53,14 @@ body Lines w m name with_name known bytes = report w (matcher m) name with_name 
 body Records w m name with_name known bytes = report_records w (matcher m) name with_name known bytes
 body Text w m name with_name known bytes = report_text w m.how m.patterns name with_name known bytes
 body Events w m name with_name known bytes = json_report w (matcher m) name no_time bytes
+body TextEvents w m name with_name known bytes = json_of_text w m.how m.patterns name no_time bytes
 
 abbrev pub body_count : Reading → OutputOptions → ReadPatterns → List ℕ → List ℕ → ℕ
 body_count Lines w m name bytes = counted_as w.print (selected_count w (matcher m) bytes)
 body_count Records w m name bytes = counted_as w.print (selected_records w (matcher m) bytes)
 body_count Text w m name bytes = counted_as w.print (selected_in_text w m.how m.patterns bytes)
 body_count Events w m name bytes = (json_stats w (matcher m) name no_time bytes).matched_lines
+body_count TextEvents w m name bytes = (json_text_stats w m.how m.patterns name no_time bytes).matched_lines
 
 -- What is printed for an input with this name and these bytes, after inputs with this outcome: what is printed for its bytes, under a heading
 -- if there is one.

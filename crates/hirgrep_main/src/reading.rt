@@ -24,6 +24,8 @@ pub enum Reading {
     Text,
     /// As a whole, and its lines are printed as JSON.
     Events,
+    /// As a whole, since matches may span lines, and its lines are printed as JSON.
+    TextEvents,
 }
 
 /// How inputs are read.
@@ -31,6 +33,9 @@ pub fn reading_given(matches: &ArgMatches<'_>) -> Reading
     ensures { result ≡ reading_given (found_of matches.now) }
 {
     if is_set(matches, "json") && !is_set(matches, "quiet") {
+        if is_set(matches, "multiline") {
+            return Reading::TextEvents;
+        }
         return Reading::Events;
     }
     if is_set(matches, "multiline") {
@@ -66,7 +71,7 @@ pub fn lists_all(reading: Reading) -> bool
 {
     match reading {
         Reading::Lines | Reading::Records => false,
-        Reading::Text | Reading::Events => true,
+        Reading::Text | Reading::Events | Reading::TextEvents => true,
     }
 }
 
@@ -75,7 +80,7 @@ pub fn prints_json(reading: Reading) -> bool
     ensures { result ≡ prints_json reading }
 {
     match reading {
-        Reading::Events => true,
+        Reading::Events | Reading::TextEvents => true,
         Reading::Lines | Reading::Records | Reading::Text => false,
     }
 }
@@ -86,7 +91,7 @@ pub fn is_by_lines(reading: Reading) -> bool
 {
     match reading {
         Reading::Lines => true,
-        Reading::Records | Reading::Text | Reading::Events => false,
+        Reading::Records | Reading::Text | Reading::Events | Reading::TextEvents => false,
     }
 }
 

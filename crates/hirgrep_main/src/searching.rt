@@ -13,7 +13,7 @@ use crate::decisions::{is_named, reads_found, reads_named};
 use crate::ignoring::IgnoreFiles;
 use crate::opening::{search_file, search_input};
 use crate::outcome::Outcome;
-use crate::reading::Reading;
+use crate::reading::prints_json;
 use crate::selecting_files::Selection;
 use crate::shown::hides_controls;
 use crate::task::{Task, shown_name};
@@ -441,7 +441,7 @@ pub fn search_files(
         width: 0,
         hides_controls: hides_controls(
             rt.stdout().is_terminal(),
-            asked.what.zero_names || asked.reading == Reading::Events,
+            asked.what.zero_names || prints_json(asked.reading),
         ),
     };
     match files.names {

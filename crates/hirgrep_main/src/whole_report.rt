@@ -4,6 +4,7 @@ ghost use Rattle.std.specs.Io.KnownBytes.{Appends};
 ghost use Rattle.line_search.specs.Searchers.{SearchesFor, found_by};
 ghost use Rattle.grep_core.specs.Headings.{heading, under};
 ghost use Rattle.text_report.specs.Events.{json_report, json_stats};
+ghost use Rattle.text_report.specs.TextEvents.{json_of_text, json_text_stats};
 ghost use Rattle.hirgrep_main.specs.Decisions.{is_headed};
 ghost use Rattle.hirgrep_main.specs.Readings.{lists_in};
 ghost use Rattle.hirgrep_main.specs.Tasks.{IsInputReported, body, body_count, patterns_by, report_by, whole_report_by};
@@ -19,7 +20,7 @@ use json_events::Stats;
 use line_search::{Fault, Finder};
 use std::alloc::{AllocError, Global};
 use std::io::{Read, Write};
-use text_report::{report_events, report_records, report_text};
+use text_report::{report_events, report_records, report_text, report_text_events};
 
 /// Writes the lines of a text as JSON, and adds what was searched to the sum.
 fn report_json<W: Write>(
@@ -51,6 +52,36 @@ fn report_json<W: Write>(
     Ok(stats.matched_lines)
 }
 
+/// Searches a text as a whole, writes the lines that matches touch as JSON, and adds what was searched to the sum.
+fn report_text_json<W: Write>(
+    alloc: Global,
+    finder: &mut Finder<'_>,
+    what: &OutputOptions<'_>,
+    name: &[u8],
+    text: &[u8],
+    writer: &mut W,
+    totals: &mut Stats,
+) -> Result<u64, Fault>
+    ensures same { finder.new ≡ finder.old }
+    ensures written { OnOk result ((by : SearchesFor finder.old true) →
+        Appends (W.contents writer.old) (W.contents writer.new)
+        (json_of_text what.now by.how by.patterns name.now no_time text.now)) }
+    ensures counted { IfOk result (λ n. (by : SearchesFor finder.old true) →
+        n ≡ (json_text_stats what.now by.how by.patterns name.now no_time text.now).matched_lines) }
+    ensures part { IfErr result (λ _. (by : SearchesFor finder.old true) →
+        (n : ℕ) × Appends (W.contents writer.old) (W.contents writer.new)
+        (take n (json_of_text what.now by.how by.patterns name.now no_time text.now))) }
+    ensures sum { IfOk result (λ _. (by : SearchesFor finder.old true) →
+        totals.new ≡ summed totals.old (json_text_stats what.now by.how by.patterns name.now no_time text.now)) }
+{
+    let searched = match report_text_events(alloc, finder, what, name, text, no_time(), writer) {
+        Ok(searched) => searched,
+        Err(e) => return Err(e),
+    };
+    *totals = summed(*totals, searched);
+    Ok(searched.matched_lines)
+}
+
 /// Writes what is printed for a text: its lines, its records, the lines that matches touch, or its lines as JSON.
 fn report_body<W: Write>(
     alloc: Global,
@@ -77,6 +108,7 @@ fn report_body<W: Write>(
     match reading {
         Reading::Text => report_text(alloc, finder, what, name, with_name, known, text, writer),
         Reading::Events => report_json(alloc, finder, what, name, text, writer, totals),
+        Reading::TextEvents => { report_text_json(alloc, finder, what, name, text, writer, totals) }
         Reading::Records => report_records(
             alloc, finder, what, name, with_name, known, text, writer,
         ),

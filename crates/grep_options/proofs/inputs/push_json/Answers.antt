@@ -11,5 +11,4 @@ returns c =
     let three = c.in_ok-arg-3.ensures ∙ ap (λ r. excluding r (codes "files")) two in
     let four = c.in_ok-arg-4.ensures ∙ ap (λ r. excluding r (codes "files-with-matches")) three in
     let five = c.in_ok-arg-5.ensures ∙ ap (λ r. excluding r (codes "files-without-match")) four in
-    let six = c.in_ok-arg-6.ensures ∙ ap (λ r. excluding r (codes "multiline")) five in
-    on_ok_weaker c.push_over.result (λ p. adds_as p (ap (λ r. turning_off r (codes "no-json")) six)) c.push_over.ensures
+    on_ok_weaker c.push_over.result (λ p. adds_as p (ap (λ r. turning_off r (codes "no-json")) five)) c.push_over.ensures

@@ -37,6 +37,21 @@ returns-in-Events-clause-part g c =
     subst (λ (r : Reading). IfErr c.report_json.result (λ _. (by : SearchesFor c.args.finder.now (lists_in r c.args.what.now)) → (n : ℕ) × Appends (g.W.Write.contents c.args.writer.now) (g.W.Write.contents c.report_json.new.writer)
     (take n (body r c.args.what.now (patterns_by by) c.args.name.now c.args.with_name c.args.known c.args.text.now)))) (sym c.in-Events.is) c.report_json.ensures.part
 
+pub returns-in-TextEvents-clause-written : goal.returns-in-TextEvents-clause-written
+returns-in-TextEvents-clause-written g c =
+    subst (λ (r : Reading). OnOk c.report_text_json.result ((by : SearchesFor c.args.finder.now (lists_in r c.args.what.now)) → Appends (g.W.Write.contents c.args.writer.now) (g.W.Write.contents c.report_text_json.new.writer)
+    (body r c.args.what.now (patterns_by by) c.args.name.now c.args.with_name c.args.known c.args.text.now))) (sym c.in-TextEvents.is) c.report_text_json.ensures.written
+
+pub returns-in-TextEvents-clause-counted : goal.returns-in-TextEvents-clause-counted
+returns-in-TextEvents-clause-counted g c =
+    subst (λ (r : Reading). IfOk c.report_text_json.result (λ n. (by : SearchesFor c.args.finder.now (lists_in r c.args.what.now)) → n ≡ body_count r c.args.what.now (patterns_by by) c.args.name.now c.args.text.now))
+    (sym c.in-TextEvents.is) c.report_text_json.ensures.counted
+
+pub returns-in-TextEvents-clause-part : goal.returns-in-TextEvents-clause-part
+returns-in-TextEvents-clause-part g c =
+    subst (λ (r : Reading). IfErr c.report_text_json.result (λ _. (by : SearchesFor c.args.finder.now (lists_in r c.args.what.now)) → (n : ℕ) × Appends (g.W.Write.contents c.args.writer.now) (g.W.Write.contents c.report_text_json.new.writer)
+    (take n (body r c.args.what.now (patterns_by by) c.args.name.now c.args.with_name c.args.known c.args.text.now)))) (sym c.in-TextEvents.is) c.report_text_json.ensures.part
+
 pub returns-in-Records-clause-written : goal.returns-in-Records-clause-written
 returns-in-Records-clause-written g c =
     subst (λ (r : Reading). OnOk c.report_records.result ((by : SearchesFor c.args.finder.now (lists_in r c.args.what.now)) → Appends (g.W.Write.contents c.args.writer.now) (g.W.Write.contents c.report_records.new.writer)
