@@ -76,7 +76,7 @@ impl Regex {
         };
         let short = all_have_short_loops(&built.trees);
         let starts = LiteralStarts::of(alloc, &built.trees, short);
-        let way = Way::of(alloc, &built.trees, &starts);
+        let way = Way::of(alloc, &built.trees, &starts, short);
         Ok(Regex {
             pair: built.pair,
             texts: copies,

@@ -68,14 +68,15 @@ fn literals_of(starts: &LiteralStarts) -> Option<&CandidateFinder>
 }
 
 impl Way {
-    /// How the matches of these trees are found, if literals say this of where they start.
-    pub(crate) fn of(alloc: Global, trees: &[Hir], starts: &LiteralStarts) -> Way
+    /// How the matches of these trees are found, if literals say this of where they start. `short` says whether a try to match at one offset
+    /// is expected to read few bytes. If it isn't, a try in vain may read all of a haystack, so none is made.
+    pub(crate) fn of(alloc: Global, trees: &[Hir], starts: &LiteralStarts, short: bool) -> Way
         ensures { IsWayOf result trees.now }
     {
         if let Some(run) = run_of_only(trees) {
             return Way::Run(run);
         }
-        if begins_at_lines(starts) {
+        if !short || begins_at_lines(starts) {
             return Way::Automata;
         }
         match sequence_of_only(alloc, trees) {
