@@ -458,7 +458,7 @@ impl Regex {
     }
 
     /// A search without automata, as far as one is known.
-    #[inline(never)]
+    #[inline(always)]
     fn search_directly(
         &self,
         alloc: Global,

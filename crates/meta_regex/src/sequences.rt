@@ -148,7 +148,7 @@ impl Sequence {
     }
 
     /// The next match from this offset on, as long as tries pay.
-    #[inline(always)]
+    #[inline(never)]
     pub(crate) fn next(
         &self,
         literals: Option<&CandidateFinder>,
