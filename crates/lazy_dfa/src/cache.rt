@@ -3,9 +3,15 @@ ghost use Rattle.determinize_core.specs.States.{IsState};
 ghost use Rattle.lazy_dfa.specs.Caches.{IsShaped, HeldAt, IsRow, is_clear_denied, fits, state_at, id_at, row_holding, usage};
 ghost use Rattle.lazy_dfa.specs.Ids.{tag};
 
+mod cache_progress;
+mod cache_writes;
+mod held_states;
+mod making;
+mod progress;
+
+use crate::accel::skip::Skip;
+use crate::cache::progress::Progress;
 use crate::lazy_id::{LazyStateID, MATCH, SENTINELS};
-use crate::progress::Progress;
-use crate::skip::Skip;
 use determinize_core::state_laws::bytes_stand_for_states;
 use determinize_core::{State, Workspace};
 use search_core::ByteClasses;

@@ -5,7 +5,7 @@ ghost use Rattle.lazy_dfa.specs.Ids.{is_sentinel, tagged};
 use std::marker::Model;
 
 /// The ID of a state in a cache, as `regex_automata::hybrid::LazyStateID`. It is the index of the state's first transition, with
-/// tags in the five highest bits. In contracts, an ID is this number. [`holds_id`](crate::dfa::DFA::holds_id) reports whether it
+/// tags in the five highest bits. In contracts, an ID is this number. [`holds_id`](crate::automaton::dfa::DFA::holds_id) reports whether it
 /// is an ID of a cache. The default, 0, is never held.
 #[derive(Clone, Copy, PartialEq, Eq, PartialOrd, Ord, Hash)]
 pub struct LazyStateID(u32);

@@ -22,58 +22,26 @@
 //! ```
 #![tactic(auto)]
 
-mod accel_bytes;
-mod accel_next;
-mod accel_rounds;
-pub mod accounting_laws;
+mod accel;
+mod automaton;
 mod build_error;
-mod builder;
-mod byte_tests;
-mod bytewise;
 mod cache;
 mod cache_error;
-pub mod cache_laws;
-mod cache_progress;
-mod cache_skip;
-mod cache_writes;
-pub mod change_laws;
-mod config;
-pub mod dfa;
-mod dfa_starts;
-mod dfa_steps;
-mod half_tables;
-mod held_states;
+mod laws;
 mod lazy_id;
-mod making;
-mod match_loop;
-mod measures;
 mod overlapping;
-mod overlapping_state;
-mod pairs;
-pub mod pass_laws;
-mod passing;
-mod position;
-mod progress;
-pub mod quit_laws;
-mod quits;
-pub mod reach_laws;
-pub mod room_laws;
-mod runs;
-pub mod scan_laws;
-mod scan_steps;
-mod search_starts;
-mod searching;
-mod skip;
+mod search;
 mod start_error;
-mod starting;
-mod stepping;
-pub mod walk_laws;
-mod walk_reads;
-mod which_patterns;
+mod steps;
 mod work;
 
+pub use automaton::dfa;
 pub use build_error::BuildError;
 pub use cache_error::CacheError;
+pub use laws::{
+    accounting_laws, cache_laws, change_laws, pass_laws, quit_laws, reach_laws, room_laws,
+    scan_laws, walk_laws,
+};
 pub use lazy_id::LazyStateID;
 pub use start_error::StartError;
 pub use work::Work;

@@ -4,14 +4,18 @@ ghost use Rattle.lazy_dfa.specs.Caches.{IsCacheOf};
 ghost use Rattle.lazy_dfa.specs.Overlapping.{CanContinue, StopsAt};
 ghost use Rattle.lazy_dfa.specs.OverlappingAnswers.{MakesCall, failed_by};
 ghost use Rattle.lazy_dfa.specs.OverlappingPromises.{ContinuesOverlapping};
-ghost use Rattle.lazy_dfa.specs.declared.overlapping_state.OverlappingPosition.TheVariants.{Fresh, Stopped};
+ghost use Rattle.lazy_dfa.specs.declared.overlapping.overlapping_state.OverlappingPosition.TheVariants.{Fresh, Stopped};
 
-use crate::dfa::{Cache, DFA};
-use crate::overlapping_state::{OverlappingPosition, OverlappingState, Stop};
-use crate::passing::{first_offset, last_offset, next_offset, start_of_pass};
-use crate::position::Position;
-use crate::searching::is_reverse;
-use crate::walk_reads::{lists_more, progress_at, read_on, tell};
+pub(crate) mod overlapping_state;
+mod walk_reads;
+mod which_patterns;
+
+use crate::automaton::dfa::{Cache, DFA};
+use crate::overlapping::overlapping_state::{OverlappingPosition, OverlappingState, Stop};
+use crate::overlapping::walk_reads::{lists_more, progress_at, read_on, tell};
+use crate::search::passing::{first_offset, last_offset, next_offset, start_of_pass};
+use crate::search::position::Position;
+use crate::search::searching::is_reverse;
 use crate::work::Work;
 use search_types::{Input, MatchError};
 use std::sync::ledger::Ledger;
@@ -142,7 +146,7 @@ impl DFA {
     ///
     /// An overlapping search reports what the states on its way list, offset by offset. If the automaton is in UTF-8 mode and can
     /// match the empty string, the search skips ends that split a character. Under [`MatchKind::All`](search_types::MatchKind),
-    /// the ends are those of all runs, each once, as [`walk_laws`](crate::walk_laws) state. Whether the earliest end is enough
+    /// the ends are those of all runs, each once, as [`walk_laws`](crate::laws::walk_laws) state. Whether the earliest end is enough
     /// makes no difference.
     ///
     /// Precondition: the search hasn't begun, or it can go on in this cache. Between its calls, other calls may use the cache
@@ -153,7 +157,7 @@ impl DFA {
     /// The cache is usable after that.
     ///
     /// The call adds no states but those on its way. It clears the cache only if one of these isn't held and has no room
-    /// ([`change_laws`](crate::change_laws)). A clear keeps at most the state from which the clearing step started.
+    /// ([`change_laws`](crate::laws::change_laws)). A clear keeps at most the state from which the clearing step started.
     ///
     /// If nothing was cleared, the cache records exactly how far a call came that succeeds, quits or gives up. A search that
     /// fails at its start records nothing. Running out of memory has no offset: the progress is then that of a failed start or of

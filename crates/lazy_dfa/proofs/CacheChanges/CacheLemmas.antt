@@ -13,7 +13,7 @@ use Rattle.determinize_core.specs.StateBytes.{encoded, is_match}
 use Rattle.lazy_dfa.specs.Dfas.{cost}
 use Rattle.lazy_dfa.specs.Accounting.{states_cost}
 use Rattle.lazy_dfa.specs.Ids.{tagged, tag, unknown_id}
-use Rattle.lazy_dfa.specs.declared.progress.Progress.{Progress}
+use Rattle.lazy_dfa.specs.declared.cache.progress.Progress.{Progress}
 use Rattle.lazy_dfa.specs.Caches.{CacheValue, IsShaped, IsKept, Agrees, same, row_holding, state_at, new_id, with_state, cleared}
 use Rattle.lazy_dfa.specs.Caches.{empty_cache}
 use Rattle.lazy_dfa.specs.Caches.{sentinel_rows}

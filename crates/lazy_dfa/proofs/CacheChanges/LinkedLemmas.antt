@@ -13,7 +13,7 @@ use Rattle.determinize_core.specs.Steps.{unit_at}
 use Rattle.search_types.specs.declared.anchored.Anchored.{Anchored}
 use Rattle.search_types.specs.Inputs.{Search}
 use Rattle.lazy_dfa.specs.Caches.{CacheValue, IsShaped, IsCacheOf, IsRow, Names, names_dead, names_held, Leads, state_at, cell_at, greatest}
-use Rattle.lazy_dfa.specs.declared.progress.Progress.{Progress}
+use Rattle.lazy_dfa.specs.declared.cache.progress.Progress.{Progress}
 use Rattle.lazy_dfa.specs.Dfas.{Dfa, IsDfa, IsUnit, after, first_state, class_of, reader}
 use Rattle.lazy_dfa.specs.Ids.{tag, unknown_id, is_sentinel}
 use Rattle.lazy_dfa.specs.Linked.{led, id_after, IsLinkedOver, start_from, IsLinkedScan, AreLinked, CacheGrows, HasCleared, GrowsOrClears}

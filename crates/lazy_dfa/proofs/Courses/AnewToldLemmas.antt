@@ -8,7 +8,7 @@ use Rattle.nfa_core.specs.Ways.{offset_of}
 use Rattle.search_types.specs.Inputs.{Search}
 use Rattle.lazy_dfa.specs.AnewProgress.{progress_anew, anew_if, IsFresh, cut_progress, cut_left, CutAt}
 use Rattle.lazy_dfa.specs.Caches.{CacheValue, greatest, distance, progress_len, begun_anew}
-use Rattle.lazy_dfa.specs.declared.progress.Progress.{Progress}
+use Rattle.lazy_dfa.specs.declared.cache.progress.Progress.{Progress}
 use Rattle.lazy_dfa.specs.LeftProgress.{progress_reached, progress_finished, has_finished, left_progress, LeftAt}
 use Rattle.lazy_dfa.specs.MadeScans.{span_len}
 use Rattle.lazy_dfa.specs.Scans.{index_at}

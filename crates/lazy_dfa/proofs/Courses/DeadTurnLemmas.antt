@@ -6,9 +6,9 @@ use Rattle.determinize_core.specs.Steps.{unit_at}
 use Rattle.search_types.specs.Found.{HalfFound}
 use Rattle.search_types.specs.Inputs.{Search}
 use Rattle.lazy_dfa.specs.Caches.{CacheValue, IsCacheOf, IsRow, greatest, progress_len, moved_to}
-use Rattle.lazy_dfa.specs.declared.progress.Progress.{Progress}
-use Rattle.lazy_dfa.specs.declared.scan_steps.Seen.{Seen}
-use Rattle.lazy_dfa.specs.declared.scan_steps.Turn.TheVariants.{Ends}
+use Rattle.lazy_dfa.specs.declared.cache.progress.Progress.{Progress}
+use Rattle.lazy_dfa.specs.declared.search.scan_steps.Seen.{Seen}
+use Rattle.lazy_dfa.specs.declared.search.scan_steps.Turn.TheVariants.{Ends}
 use Rattle.lazy_dfa.specs.Dfas.{Dfa, IsDfa, IsUnit, class_of}
 use Rattle.lazy_dfa.specs.Ids.{tag, has_tag, dead_tag, unknown_id}
 use Rattle.lazy_dfa.specs.Scans.{index_at}

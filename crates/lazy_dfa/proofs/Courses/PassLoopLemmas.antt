@@ -13,8 +13,8 @@ use Rattle.search_types.specs.Found.{HalfFound}
 use Rattle.search_types.specs.Inputs.{Search}
 use Rattle.lazy_dfa.specs.Caches.{CacheValue, IsCacheOf, HeldAt, IsRow, greatest, has_no_room}
 use Rattle.lazy_dfa.specs.Courses.{HasNoStop, state_after}
-use Rattle.lazy_dfa.specs.declared.position.Position.{Position}
-use Rattle.lazy_dfa.specs.declared.progress.Progress.{Progress}
+use Rattle.lazy_dfa.specs.declared.search.position.Position.{Position}
+use Rattle.lazy_dfa.specs.declared.cache.progress.Progress.{Progress}
 use Rattle.lazy_dfa.specs.Dfas.{Dfa, IsDfa, reader}
 use Rattle.lazy_dfa.specs.LeftProgress.{is_quit_error, FailsAtUnit, LeftAt}
 use Rattle.lazy_dfa.specs.Linked.{HasCleared, IsMoved}

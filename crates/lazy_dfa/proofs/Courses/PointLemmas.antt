@@ -14,7 +14,7 @@ use Rattle.lazy_dfa.specs.Caches.{CacheValue, IsShaped, IsCacheOf, IsRow, HeldAt
 use Rattle.lazy_dfa.specs.Caches.{state_at, greatest}
 use Rattle.lazy_dfa.specs.Changes.{unchanged, IsMadeAt}
 use Rattle.lazy_dfa.specs.Courses.{state_after, best_after}
-use Rattle.lazy_dfa.specs.declared.progress.Progress.{Progress}
+use Rattle.lazy_dfa.specs.declared.cache.progress.Progress.{Progress}
 use Rattle.lazy_dfa.specs.Dfas.{Dfa, IsDfa, IsUnit, after, reader}
 use Rattle.lazy_dfa.specs.Ids.{tag, tagged, unknown_id, is_sentinel}
 use Rattle.lazy_dfa.specs.Linked.{led, id_after, IsLinkedOver, CacheGrows, HasCleared}

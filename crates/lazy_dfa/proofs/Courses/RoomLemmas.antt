@@ -11,7 +11,7 @@ use Rattle.determinize_core.specs.States.{StateValue}
 use Rattle.lazy_dfa.specs.Caches.{CacheValue, names_held, row_holding, fits, is_clear_denied, has_no_room}
 use Rattle.lazy_dfa.specs.ConfigValue.{clears_of, minimum_bytes_of}
 use Rattle.lazy_dfa.specs.Courses.{state_after}
-use Rattle.lazy_dfa.specs.declared.overlapping_state.OverlappingPosition.TheVariants.{Fresh}
+use Rattle.lazy_dfa.specs.declared.overlapping.overlapping_state.OverlappingPosition.TheVariants.{Fresh}
 use Rattle.lazy_dfa.specs.Dfas.{Dfa, reader, is_dead}
 use Rattle.lazy_dfa.specs.LeftProgress.{HasRowOf, LeavesScan, left_first, left_at_unit}
 use Rattle.lazy_dfa.specs.Scans.{index_at, first_value}

@@ -19,9 +19,9 @@ use Rattle.lazy_dfa.specs.Caches.{CacheValue, IsRow, HeldAt, greatest, distance,
 use Rattle.lazy_dfa.specs.Courses.{state_after, stops_after}
 use Rattle.lazy_dfa.specs.declared.cache_error.CacheError.{CacheError}
 use Rattle.lazy_dfa.specs.declared.cache_error.CacheError.TheVariants.{GaveUp, NoMemory}
-use Rattle.lazy_dfa.specs.declared.progress.Progress.{Progress}
-use Rattle.lazy_dfa.specs.declared.scan_steps.Turn.{Turn}
-use Rattle.lazy_dfa.specs.declared.scan_steps.Turn.TheVariants.{GoesOn, Ends, Quits}
+use Rattle.lazy_dfa.specs.declared.cache.progress.Progress.{Progress}
+use Rattle.lazy_dfa.specs.declared.search.scan_steps.Turn.{Turn}
+use Rattle.lazy_dfa.specs.declared.search.scan_steps.Turn.TheVariants.{GoesOn, Ends, Quits}
 use Rattle.lazy_dfa.specs.Dfas.{Dfa, reader}
 use Rattle.lazy_dfa.specs.Linked.{CacheGrows, HasCleared, GrowsOrClears, IsMoved}
 use Rattle.lazy_dfa.specs.MadeScans.{span_len}

@@ -12,10 +12,10 @@ use Rattle.lazy_dfa.specs.Caches.{state_at, has_no_room}
 use Rattle.lazy_dfa.specs.Courses.{stops_after}
 use Rattle.lazy_dfa.specs.declared.cache_error.CacheError.{CacheError}
 use Rattle.lazy_dfa.specs.declared.cache_error.CacheError.TheVariants.{GaveUp, NoMemory}
-use Rattle.lazy_dfa.specs.declared.progress.Progress.{Progress}
-use Rattle.lazy_dfa.specs.declared.scan_steps.Seen.{Seen}
-use Rattle.lazy_dfa.specs.declared.scan_steps.Turn.{Turn}
-use Rattle.lazy_dfa.specs.declared.scan_steps.Turn.TheVariants.{GoesOn, Ends, Quits}
+use Rattle.lazy_dfa.specs.declared.cache.progress.Progress.{Progress}
+use Rattle.lazy_dfa.specs.declared.search.scan_steps.Seen.{Seen}
+use Rattle.lazy_dfa.specs.declared.search.scan_steps.Turn.{Turn}
+use Rattle.lazy_dfa.specs.declared.search.scan_steps.Turn.TheVariants.{GoesOn, Ends, Quits}
 use Rattle.lazy_dfa.specs.Dfas.{Dfa, after, reader}
 use Rattle.lazy_dfa.specs.Ids.{tag, has_tag, dead_tag, quit_tag, match_tag, tagged, dead_id, quit_id, is_sentinel}
 use Rattle.lazy_dfa.specs.Linked.{IsLinkedOver}

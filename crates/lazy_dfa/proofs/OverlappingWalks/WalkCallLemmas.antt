@@ -8,8 +8,8 @@ use Rattle.search_types.specs.declared.match_error.MatchErrorKind.TheVariants.{G
 use Rattle.search_types.specs.Inputs.{Search}
 use Rattle.nfa_core.specs.Places.{first}
 use Rattle.lazy_dfa.specs.Caches.{CacheValue, IsCacheOf, greatest, progress_len}
-use Rattle.lazy_dfa.specs.declared.overlapping_state.OverlappingPosition.{OverlappingPosition}
-use Rattle.lazy_dfa.specs.declared.overlapping_state.OverlappingPosition.TheVariants.{Fresh, Ended, Failed, Stopped}
+use Rattle.lazy_dfa.specs.declared.overlapping.overlapping_state.OverlappingPosition.{OverlappingPosition}
+use Rattle.lazy_dfa.specs.declared.overlapping.overlapping_state.OverlappingPosition.TheVariants.{Fresh, Ended, Failed, Stopped}
 use Rattle.lazy_dfa.specs.Dfas.{Dfa, IsDfa, reader}
 use Rattle.lazy_dfa.specs.Linked.{CacheGrows, HasCleared, GrowsOrClears}
 use Rattle.lazy_dfa.specs.Readers.{Reader}

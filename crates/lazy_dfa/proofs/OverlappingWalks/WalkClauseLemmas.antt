@@ -7,7 +7,7 @@ use Rattle.search_types.specs.Inputs.{Search}
 use Rattle.nfa_core.specs.Ways.{offset_of}
 use Rattle.lazy_dfa.specs.Caches.{CacheValue, greatest}
 use Rattle.lazy_dfa.specs.ConfigValue.{clears_of}
-use Rattle.lazy_dfa.specs.declared.overlapping_state.OverlappingPosition.{OverlappingPosition}
+use Rattle.lazy_dfa.specs.declared.overlapping.overlapping_state.OverlappingPosition.{OverlappingPosition}
 use Rattle.lazy_dfa.specs.Dfas.{Dfa, reader}
 use Rattle.lazy_dfa.specs.Linked.{CacheGrows, HasCleared}
 use Rattle.lazy_dfa.specs.Scans.{first_value}

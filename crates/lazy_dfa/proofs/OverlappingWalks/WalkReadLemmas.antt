@@ -16,8 +16,8 @@ use Rattle.search_types.specs.Inputs.{Search}
 use Rattle.search_types.specs.Places.{counts}
 use Rattle.lazy_dfa.specs.Caches.{CacheValue, IsCacheOf, IsRow, HeldAt, Names, names_dead, names_held, greatest, progress_len, has_no_room}
 use Rattle.lazy_dfa.specs.Courses.{state_after}
-use Rattle.lazy_dfa.specs.declared.position.Position.{Position}
-use Rattle.lazy_dfa.specs.declared.overlapping_state.OverlappingPosition.TheVariants.{Ended, Stopped}
+use Rattle.lazy_dfa.specs.declared.search.position.Position.{Position}
+use Rattle.lazy_dfa.specs.declared.overlapping.overlapping_state.OverlappingPosition.TheVariants.{Ended, Stopped}
 use Rattle.lazy_dfa.specs.Dfas.{Dfa, IsDfa, reader}
 use Rattle.lazy_dfa.specs.Linked.{CacheGrows, HasCleared, GrowsOrClears, IsMoved}
 use Rattle.lazy_dfa.specs.Scans.{is_dead, is_empty, next_value, next_offset}

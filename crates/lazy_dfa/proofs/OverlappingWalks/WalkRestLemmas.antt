@@ -16,7 +16,7 @@ use Rattle.lazy_dfa.specs.Scans.{index_at, is_empty, is_dead, next_value, next_o
 use Rattle.lazy_dfa.specs.Readers.{Reader, is_quit}
 use Rattle.lazy_dfa.specs.Overlapping.{Rest, nothing_left, refused, onto, others, unless_quit_at, end_of, listed, rest_from}
 use Rattle.lazy_dfa.specs.OverlappingAnswers.{units_met, result_left, stop_after}
-use Rattle.lazy_dfa.specs.declared.overlapping_state.OverlappingPosition.TheVariants.{Stopped}
+use Rattle.lazy_dfa.specs.declared.overlapping.overlapping_state.OverlappingPosition.TheVariants.{Stopped}
 use Rattle.lazy_dfa.specs.OverlappingTurns.{reports_end, ReportsNone}
 use Rattle.lazy_dfa.proofs.HalfSearches.TurnLemmas.{place_next}
 use Rattle.nfa_core.proofs.ForCallers.{place_zero}

@@ -9,8 +9,8 @@ use Rattle.search_types.specs.Places.{counts}
 use Rattle.nfa_core.specs.Places.{first}
 use Rattle.nfa_core.specs.Ways.{offset_of}
 use Rattle.lazy_dfa.specs.Caches.{CacheValue, IsCacheOf, HeldAt}
-use Rattle.lazy_dfa.specs.declared.overlapping_state.Stop.{Stop}
-use Rattle.lazy_dfa.specs.declared.overlapping_state.OverlappingPosition.TheVariants.{Fresh, Ended, Stopped}
+use Rattle.lazy_dfa.specs.declared.overlapping.overlapping_state.Stop.{Stop}
+use Rattle.lazy_dfa.specs.declared.overlapping.overlapping_state.OverlappingPosition.TheVariants.{Fresh, Ended, Stopped}
 use Rattle.lazy_dfa.specs.Dfas.{Dfa, IsDfa, reader}
 use Rattle.lazy_dfa.specs.SearchAnswers.{half_of}
 use Rattle.lazy_dfa.specs.Scans.{next_offset}

@@ -9,7 +9,7 @@ use Rattle.lazy_dfa.specs.Caches.{CacheValue, greatest, distance, progress_len, 
 use Rattle.lazy_dfa.specs.Dfas.{Dfa}
 use Rattle.lazy_dfa.specs.LeftProgress.{progress_reached, progress_finished}
 use Rattle.lazy_dfa.specs.AnewProgress.{progress_anew}
-use Rattle.lazy_dfa.specs.declared.overlapping_state.OverlappingPosition.{OverlappingPosition}
+use Rattle.lazy_dfa.specs.declared.overlapping.overlapping_state.OverlappingPosition.{OverlappingPosition}
 use Rattle.lazy_dfa.specs.Readers.{Reader}
 use Rattle.lazy_dfa.specs.SearchAnswers.{ProgressValue, progress_of, scan_distance}
 use Rattle.lazy_dfa.specs.ScanOffsets.{left_at, IsWithinSpan, gave_up_at, finished}

@@ -18,10 +18,10 @@ use Rattle.lazy_dfa.specs.ConfigValue.{clears_of, minimum_bytes_of}
 use Rattle.lazy_dfa.specs.Courses.{state_after, stops_after}
 use Rattle.lazy_dfa.specs.declared.cache_error.CacheError.{CacheError}
 use Rattle.lazy_dfa.specs.declared.cache_error.CacheError.TheVariants.{GaveUp, NoMemory}
-use Rattle.lazy_dfa.specs.declared.position.Position.{Position}
-use Rattle.lazy_dfa.specs.declared.progress.Progress.{Progress}
-use Rattle.lazy_dfa.specs.declared.scan_steps.Turn.{Turn}
-use Rattle.lazy_dfa.specs.declared.scan_steps.Turn.TheVariants.{GoesOn, Ends, Quits}
+use Rattle.lazy_dfa.specs.declared.search.position.Position.{Position}
+use Rattle.lazy_dfa.specs.declared.cache.progress.Progress.{Progress}
+use Rattle.lazy_dfa.specs.declared.search.scan_steps.Turn.{Turn}
+use Rattle.lazy_dfa.specs.declared.search.scan_steps.Turn.TheVariants.{GoesOn, Ends, Quits}
 use Rattle.lazy_dfa.specs.Dfas.{Dfa, reader, is_dead as is_lost}
 use Rattle.lazy_dfa.specs.Ids.{has_tag, match_tag}
 use Rattle.lazy_dfa.specs.Linked.{IsMoved}

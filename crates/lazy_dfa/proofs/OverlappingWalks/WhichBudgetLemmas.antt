@@ -15,9 +15,9 @@ use Rattle.determinize_core.specs.States.{StateValue}
 use Rattle.determinize_core.specs.Steps.{unit_before}
 use Rattle.lazy_dfa.specs.Caches.{CacheValue, has_no_room}
 use Rattle.lazy_dfa.specs.Courses.{state_after}
-use Rattle.lazy_dfa.specs.declared.overlapping_state.Stop.{Stop}
-use Rattle.lazy_dfa.specs.declared.overlapping_state.OverlappingPosition.{OverlappingPosition}
-use Rattle.lazy_dfa.specs.declared.overlapping_state.OverlappingPosition.TheVariants.{Fresh, Ended, Failed, Stopped}
+use Rattle.lazy_dfa.specs.declared.overlapping.overlapping_state.Stop.{Stop}
+use Rattle.lazy_dfa.specs.declared.overlapping.overlapping_state.OverlappingPosition.{OverlappingPosition}
+use Rattle.lazy_dfa.specs.declared.overlapping.overlapping_state.OverlappingPosition.TheVariants.{Fresh, Ended, Failed, Stopped}
 use Rattle.lazy_dfa.specs.Dfas.{Dfa, reader}
 use Rattle.lazy_dfa.specs.MadeScans.{span_len}
 use Rattle.lazy_dfa.specs.Scans.{index_at, index_before_offset, next_offset, first_value}

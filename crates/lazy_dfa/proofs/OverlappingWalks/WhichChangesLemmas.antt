@@ -8,9 +8,9 @@ use Rattle.search_types.specs.Inputs.{Search}
 use Rattle.search_types.specs.Modes.{is_supported}
 use Rattle.search_types.specs.Places.{counts}
 use Rattle.lazy_dfa.specs.Courses.{state_after}
-use Rattle.lazy_dfa.specs.declared.overlapping_state.Stop.{Stop}
-use Rattle.lazy_dfa.specs.declared.overlapping_state.OverlappingPosition.{OverlappingPosition}
-use Rattle.lazy_dfa.specs.declared.overlapping_state.OverlappingPosition.TheVariants.{Fresh, Ended, Failed, Stopped}
+use Rattle.lazy_dfa.specs.declared.overlapping.overlapping_state.Stop.{Stop}
+use Rattle.lazy_dfa.specs.declared.overlapping.overlapping_state.OverlappingPosition.{OverlappingPosition}
+use Rattle.lazy_dfa.specs.declared.overlapping.overlapping_state.OverlappingPosition.TheVariants.{Fresh, Ended, Failed, Stopped}
 use Rattle.lazy_dfa.specs.Dfas.{Dfa, reader}
 use Rattle.lazy_dfa.specs.MadeScans.{span_len}
 use Rattle.lazy_dfa.specs.ScanOffsets.{IsWithinSpan, last_offset, left_at, came}

@@ -6,7 +6,7 @@ use Rattle.lazy_dfa.specs.Ids.{tag}
 use Rattle.lazy_dfa.specs.Points.{GoesTo, point}
 use Rattle.lazy_dfa.specs.Skips.{StaysOver}
 use Rattle.lazy_dfa.specs.Stretches.{MovesTo}
-use Rattle.lazy_dfa.specs.declared.runs.Moved.{Moved}
+use Rattle.lazy_dfa.specs.declared.search.runs.Moved.{Moved}
 use Rattle.lazy_dfa.proofs.CacheChanges.ChangeLemmas.{plain_noted}
 use Rattle.lazy_dfa.proofs.CacheChanges.LinkedLemmas.{AreBytes}
 use Rattle.lazy_dfa.proofs.Courses.PointLemmas.{goes_on, runs_none, runs_on, next_row, forward_unit, forward_place}

@@ -3,7 +3,7 @@ use Rattle.std.specs.Prelude.{Ok}
 use Rattle.lazy_dfa.specs.Caches.{HeldAt}
 use Rattle.lazy_dfa.specs.Dfas.{reader}
 use Rattle.lazy_dfa.specs.ScanOffsets.{IsWithinSpan}
-use Rattle.lazy_dfa.specs.declared.overlapping_state.OverlappingPosition.TheVariants.{Fresh}
+use Rattle.lazy_dfa.specs.declared.overlapping.overlapping_state.OverlappingPosition.TheVariants.{Fresh}
 use Rattle.lazy_dfa.specs.Overlapping.{OverlappingValue}
 use Rattle.lazy_dfa.specs.OverlappingAnswers.{MakesCall, ReadsOn, value_before}
 use Rattle.lazy_dfa.proofs.CacheChanges.LinkedLemmas.{is_cache_moved}

@@ -1,7 +1,7 @@
 use Rattle.std.proofs.Common.{sym, subst}
 use Rattle.search_types.specs.declared.match_error.MatchErrorKind.{MatchErrorKind}
-use Rattle.lazy_dfa.specs.declared.overlapping_state.OverlappingPosition.{OverlappingPosition}
-use Rattle.lazy_dfa.specs.declared.overlapping_state.OverlappingPosition.TheVariants.{Ended, Failed}
+use Rattle.lazy_dfa.specs.declared.overlapping.overlapping_state.OverlappingPosition.{OverlappingPosition}
+use Rattle.lazy_dfa.specs.declared.overlapping.overlapping_state.OverlappingPosition.TheVariants.{Ended, Failed}
 use Rattle.lazy_dfa.specs.OverlappingAnswers.{MakesCall, failed_by}
 use Rattle.lazy_dfa.specs.Overlapping.{OverlappingValue}
 use Rattle.lazy_dfa.proofs.OverlappingWalks.WalkCallLemmas.{fine, failure, ended_call, failed_call}

@@ -2,7 +2,7 @@ use Rattle.std.proofs.Common.{ℕ, sym, ◌∙◌, subst}
 use Rattle.std.specs.Prelude.{Ok}
 use Rattle.lazy_dfa.specs.Caches.{HeldAt}
 use Rattle.lazy_dfa.specs.Dfas.{reader}
-use Rattle.lazy_dfa.specs.declared.overlapping_state.OverlappingPosition.TheVariants.{Stopped}
+use Rattle.lazy_dfa.specs.declared.overlapping.overlapping_state.OverlappingPosition.TheVariants.{Stopped}
 use Rattle.lazy_dfa.specs.Overlapping.{OverlappingValue}
 use Rattle.lazy_dfa.specs.OverlappingAnswers.{MakesCall, ReadsOn, value_before}
 use Rattle.lazy_dfa.proofs.OverlappingWalks.WalkStopLemmas.{more_call, over_call, resumes_held, resumes}
