@@ -5,6 +5,7 @@ pub mod LookBehind
 pub mod Steps
 pub mod Added
 pub mod Costs
+pub mod StepRoom
 pub mod Closing
 pub mod KnownBefore
 pub mod Walked

@@ -6,6 +6,7 @@ ghost use Rattle.std.specs.List.{IsDistinct, flat_map};
 ghost use Rattle.search_core.specs.Units.{unit_byte};
 ghost use Rattle.look_core.specs.Looks.{byte_side, is_word, is_byte};
 ghost use Rattle.determinize_core.specs.Costs.{free_ways, known_ways};
+ghost use Rattle.determinize_core.specs.StepRoom.{AreSetsFor, AreStatesOf};
 ghost use Rattle.determinize_core.specs.Steps.{families, first_half, gains, ids_before, known_before, states_after, begun, step_value};
 ghost use Rattle.determinize_core.specs.Steps.{closed, is_some_kept, known_steps, pattern_at, patterns_in, reading, unit_steps};
 ghost use Rattle.nfa_core.specs.Walks.{distinct, Visits};
@@ -85,10 +86,8 @@ fn step_all<S: NameSet, L: Ledger>(
     builder: &mut StateBuilderMatches,
     steps: &mut Steps<L>,
 ) -> Result<(), AllocError>
-    requires bound1 { S.bound sets.old.set1 ≡ length nfa.now.automaton.states }
-    requires bound2 { S.bound sets.old.set2 ≡ length nfa.now.automaton.states }
-    requires below { All (λ q. q < length nfa.now.automaton.states) state.now.ids }
-    requires once { IsDistinct nat_eq state.now.ids }
+    requires sets { AreSetsFor (length nfa.now.automaton.states) (S.bound sets.old.set1) (S.bound sets.old.set2) }
+    requires state { AreStatesOf (length nfa.now.automaton.states) state.now.ids }
     requires empty { stack.old.items ≡ [] }
     requires matches { builder.old.matches ≡ [] }
     ensures matches { OnOk result (builder.new ≡ record builder.old {
@@ -98,8 +97,7 @@ fn step_all<S: NameSet, L: Ledger>(
         closed nfa.now.automaton looks (flat_map (unit_steps nfa.now.automaton (unit_byte unit))
         (reading kind nfa.now.automaton (ids_before nfa.now.automaton nfa.now.terminator state.now (unit_byte unit))))) }
     ensures stack { OnOk result (stack.new.items ≡ []) }
-    ensures bound1 { S.bound sets.new.set1 ≡ length nfa.now.automaton.states }
-    ensures bound2 { S.bound sets.new.set2 ≡ length nfa.now.automaton.states }
+    ensures sets { AreSetsFor (length nfa.now.automaton.states) (S.bound sets.new.set1) (S.bound sets.new.set2) }
     ensures cost { steps.new ≤ steps.old + 3 * length nfa.now.automaton.states + 2 * free_ways nfa.now.automaton }
 {
     if !asks_anew(nfa, state, unit) {
@@ -152,16 +150,13 @@ fn states_before<S: NameSet, L: Ledger>(
     unit: Unit,
     steps: &mut Steps<L>,
 ) -> Result<(), AllocError>
-    requires bound1 { S.bound sets.old.set1 ≡ length nfa.now.automaton.states }
-    requires bound2 { S.bound sets.old.set2 ≡ length nfa.now.automaton.states }
-    requires below { All (λ q. q < length nfa.now.automaton.states) state.now.ids }
-    requires once { IsDistinct nat_eq state.now.ids }
+    requires sets { AreSetsFor (length nfa.now.automaton.states) (S.bound sets.old.set1) (S.bound sets.old.set2) }
+    requires state { AreStatesOf (length nfa.now.automaton.states) state.now.ids }
     requires empty { stack.old.items ≡ [] }
     ensures ids { OnOk result (S.names sets.new.set1 ≡ ids_before nfa.now.automaton nfa.now.terminator state.now (unit_byte unit)) }
     ensures none { OnOk result (S.names sets.new.set2 ≡ []) }
     ensures stack { OnOk result (stack.new.items ≡ []) }
-    ensures bound1 { S.bound sets.new.set1 ≡ length nfa.now.automaton.states }
-    ensures bound2 { S.bound sets.new.set2 ≡ length nfa.now.automaton.states }
+    ensures sets { AreSetsFor (length nfa.now.automaton.states) (S.bound sets.new.set1) (S.bound sets.new.set2) }
     ensures cost { steps.new ≤ steps.old + 2 * length nfa.now.automaton.states + free_ways nfa.now.automaton }
 {
     sets.clear();
@@ -297,8 +292,7 @@ fn step_ids<S: NameSet, L: Ledger>(
     builder: &mut StateBuilderMatches,
     steps: &mut Steps<L>,
 ) -> Result<(), AllocError>
-    requires below { All (λ q. q < length nfa.now.automaton.states) state.now.ids }
-    requires once { IsDistinct nat_eq state.now.ids }
+    requires state { AreStatesOf (length nfa.now.automaton.states) state.now.ids }
     requires bound { S.bound set.old ≡ length nfa.now.automaton.states }
     requires none { S.names set.old ≡ [] }
     requires empty { stack.old.items ≡ [] }

@@ -3,6 +3,7 @@ ghost use Rattle.std.specs.Bool.{nat_eq};
 ghost use Rattle.std.specs.List.{IsDistinct};
 ghost use Rattle.search_core.specs.Units.{unit_byte};
 ghost use Rattle.determinize_core.specs.Costs.{free_ways};
+ghost use Rattle.determinize_core.specs.StepRoom.{AreSetsFor, AreStatesOf};
 ghost use Rattle.determinize_core.specs.States.{StateValue};
 ghost use Rattle.determinize_core.specs.Starts.{start_of};
 ghost use Rattle.determinize_core.specs.Steps.{start_value, step_value};
@@ -225,16 +226,13 @@ fn step_on<S: NameSet, L: Ledger>(
     unit: Unit,
     steps: &mut Steps<L>,
 ) -> Result<State, AllocError>
-    requires bound1 { S.bound sets.old.set1 ≡ length nfa.now.automaton.states }
-    requires bound2 { S.bound sets.old.set2 ≡ length nfa.now.automaton.states }
-    requires below { All (λ q. q < length nfa.now.automaton.states) last.ids }
-    requires once { IsDistinct nat_eq last.ids }
+    requires sets { AreSetsFor (length nfa.now.automaton.states) (S.bound sets.old.set1) (S.bound sets.old.set2) }
+    requires state { AreStatesOf (length nfa.now.automaton.states) last.ids }
     requires empty { stack.old.items ≡ [] }
     ensures value { IfOk result (λ behind. behind ≡ step_value nfa.now.automaton nfa.now.terminator kind last (unit_byte unit)) }
     ensures states { OnOk result (states.new.items ≡ states.old.items ++ last ∷ []) }
     ensures stack { OnOk result (stack.new.items ≡ []) }
-    ensures bound1 { S.bound sets.new.set1 ≡ length nfa.now.automaton.states }
-    ensures bound2 { S.bound sets.new.set2 ≡ length nfa.now.automaton.states }
+    ensures sets { AreSetsFor (length nfa.now.automaton.states) (S.bound sets.new.set1) (S.bound sets.new.set2) }
     ensures cost { steps.new ≤ steps.old + 3 * length nfa.now.automaton.states + 2 * free_ways nfa.now.automaton }
 {
     let behind = state_after(alloc, nfa, kind, sets, stack, &last, unit, steps)?;

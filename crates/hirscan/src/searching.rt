@@ -5,6 +5,7 @@ ghost use Rattle.search_core.specs.Utf8.{IsValidText};
 ghost use Rattle.look_core.specs.Looks.{IsWordSet};
 ghost use Rattle.hir_core.specs.Facts.{LoopsRead, is_utf8_tree};
 ghost use Rattle.hir_core.specs.Tree.{Tree};
+ghost use Rattle.lazy_dfa.specs.Blanks.{FitsLedger};
 ghost use Rattle.regex_pair.specs.PairAnswers.{AnswersPair};
 ghost use Rattle.regex_pair.specs.Pairs.{AreCachesOf, PairGrowsOrClears};
 ghost use Rattle.hirscan.specs.declared.settings.Settings.{Settings};
@@ -66,12 +67,8 @@ fn search_counted<L: Ledger, M: Ledger>(
     second: Blank,
 ) -> Result<Option<Match>, MatchError>
     requires own { AreCachesOf re.now cache.old }
-    requires name1 { first.name ≡ L.name }
-    requires parts1 { first.parts ≡ L.parts }
-    requires some1 { 0 < first.parts }
-    requires name2 { second.name ≡ M.name }
-    requires parts2 { second.parts ≡ M.parts }
-    requires some2 { 0 < second.parts }
+    requires first { FitsLedger first.name first.parts L.name L.parts }
+    requires second { FitsLedger second.name second.parts M.name M.parts }
     ensures own { AreCachesOf re.now cache.new }
     ensures answer { AnswersPair re.now cache.new input.now result }
     ensures done { input.now.end < input.now.start → (result ≡ Ok None) × (cache.new ≡ cache.old) }

@@ -1,8 +1,8 @@
 -- The bytes by which a search may leave a state, so that a search for one of them can skip all others.
 use Rattle.std.specs.Prelude.{◌||◌, ◌==◌, ℕ, Bool, false}
 use Rattle.lazy_dfa.specs.ByteTests.{in_range, in_halves}
-use Rattle.lazy_dfa.specs.declared.accel_bytes.Leaving.{Leaving}
-use Rattle.lazy_dfa.specs.declared.accel_bytes.Leaving.TheVariants.{Never, One, Two, Three, Range, Ranges, Halves}
+use Rattle.lazy_dfa.specs.declared.accel.accel_bytes.Leaving.{Leaving}
+use Rattle.lazy_dfa.specs.declared.accel.accel_bytes.Leaving.TheVariants.{Never, One, Two, Three, Range, Ranges, Halves}
 
 -- whether the byte is one of these
 abbrev pub leaves : Leaving → ℕ → Bool

@@ -1,7 +1,7 @@
 -- Tests of single bytes that can test many bytes at once.
 use Rattle.std.specs.Prelude.{◌≡◌, ◌+◌, ◌-◌, ◌%◌, ◌/◌, ◌<◌, ◌≤◌, ◌==◌, ℕ, List, length, map, slice_index, slice_index_or}
 use Rattle.std.specs.Prelude.{◌&&◌, Bool, false, not, nat_le, if◌then◌else◌, bit_and}
-use Rattle.lazy_dfa.specs.declared.byte_tests.ByteRange.{ByteRange}
+use Rattle.lazy_dfa.specs.declared.accel.byte_tests.ByteRange.{ByteRange}
 
 -- whether a bit of a lane is set
 abbrev pub has_bits : ℕ → Bool

@@ -13,7 +13,7 @@ use Rattle.lazy_dfa.specs.ConfigValue.{clears_of, minimum_bytes_of}
 use Rattle.lazy_dfa.specs.Dfas.{Dfa, after, first_state, start_in, IsUnit, class_of, IsStateOf, cost, is_dead}
 use Rattle.lazy_dfa.specs.Ids.{tag, unknown_id, dead_id, quit_id, tagged}
 use Rattle.lazy_dfa.specs.Readers.{is_quit}
-use Rattle.lazy_dfa.specs.declared.progress.Progress.{Progress}
+use Rattle.lazy_dfa.specs.declared.cache.progress.Progress.{Progress}
 
 -- Rows 0, 1 and 2 are those of the sentinels: unknown, dead and quit. They hold no state. The other rows hold the
 -- states, in order.

@@ -35,3 +35,4 @@ pub mod OverlappingPromises
 pub mod OverlappingTurns
 pub mod OverlappingLaws
 pub mod Changes
+pub mod Blanks

@@ -17,9 +17,9 @@ use Rattle.lazy_dfa.specs.AnewProgress.{IsFresh}
 use Rattle.lazy_dfa.specs.Caches.{CacheValue, greatest, distance, progress_len, has_no_room}
 use Rattle.lazy_dfa.specs.LeftProgress.{is_quit_error, HasRowOf, FailsFirst}
 use Rattle.lazy_dfa.specs.Changes.{Changes, IsMadeAt, IsMadeFirst}
-use Rattle.lazy_dfa.specs.declared.overlapping_state.Stop.{Stop}
-use Rattle.lazy_dfa.specs.declared.overlapping_state.OverlappingPosition.{OverlappingPosition}
-use Rattle.lazy_dfa.specs.declared.overlapping_state.OverlappingPosition.TheVariants.{Fresh, Ended, Failed, Stopped}
+use Rattle.lazy_dfa.specs.declared.overlapping.overlapping_state.Stop.{Stop}
+use Rattle.lazy_dfa.specs.declared.overlapping.overlapping_state.OverlappingPosition.{OverlappingPosition}
+use Rattle.lazy_dfa.specs.declared.overlapping.overlapping_state.OverlappingPosition.TheVariants.{Fresh, Ended, Failed, Stopped}
 use Rattle.lazy_dfa.specs.Dfas.{Dfa, reader}
 use Rattle.lazy_dfa.specs.Linked.{CacheGrows, HasCleared, GrowsOrClears}
 use Rattle.lazy_dfa.specs.MadeScans.{span_len}

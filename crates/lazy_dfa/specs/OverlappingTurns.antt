@@ -15,12 +15,12 @@ use Rattle.search_types.specs.Places.{counts}
 use Rattle.lazy_dfa.specs.AnewProgress.{anew_if}
 use Rattle.lazy_dfa.specs.Caches.{CacheValue, HeldAt, IsRow, has_no_room}
 use Rattle.lazy_dfa.specs.Courses.{state_after}
-use Rattle.lazy_dfa.specs.declared.overlapping_state.OverlappingPosition.TheVariants.{Ended, Stopped}
-use Rattle.lazy_dfa.specs.declared.position.Position.{Position}
-use Rattle.lazy_dfa.specs.declared.scan_steps.Seen.{Seen}
-use Rattle.lazy_dfa.specs.declared.scan_steps.Turn.{Turn}
-use Rattle.lazy_dfa.specs.declared.scan_steps.Turn.TheVariants.{GoesOn, Ends, Quits}
-use Rattle.lazy_dfa.specs.declared.walk_reads.Read.{Read}
+use Rattle.lazy_dfa.specs.declared.overlapping.overlapping_state.OverlappingPosition.TheVariants.{Ended, Stopped}
+use Rattle.lazy_dfa.specs.declared.search.position.Position.{Position}
+use Rattle.lazy_dfa.specs.declared.search.scan_steps.Seen.{Seen}
+use Rattle.lazy_dfa.specs.declared.search.scan_steps.Turn.{Turn}
+use Rattle.lazy_dfa.specs.declared.search.scan_steps.Turn.TheVariants.{GoesOn, Ends, Quits}
+use Rattle.lazy_dfa.specs.declared.overlapping.walk_reads.Read.{Read}
 use Rattle.lazy_dfa.specs.Dfas.{Dfa, reader}
 use Rattle.lazy_dfa.specs.LeftProgress.{progress_reached, progress_finished}
 use Rattle.lazy_dfa.specs.Linked.{HasCleared, IsMoved}

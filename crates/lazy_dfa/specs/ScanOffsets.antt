@@ -17,8 +17,8 @@ use Rattle.lazy_dfa.specs.Changes.{Changes, IsMadeAt}
 use Rattle.lazy_dfa.specs.Courses.{state_after, HasNoStop, stops_after}
 use Rattle.lazy_dfa.specs.declared.cache_error.CacheError.{CacheError}
 use Rattle.lazy_dfa.specs.declared.cache_error.CacheError.TheVariants.{GaveUp as StepGaveUp, NoMemory as StepNoMemory}
-use Rattle.lazy_dfa.specs.declared.position.Position.{Position}
-use Rattle.lazy_dfa.specs.declared.passing.Turned.{Turned}
+use Rattle.lazy_dfa.specs.declared.search.position.Position.{Position}
+use Rattle.lazy_dfa.specs.declared.search.passing.Turned.{Turned}
 use Rattle.lazy_dfa.specs.Dfas.{Dfa, reader, start_in}
 use Rattle.lazy_dfa.specs.Ids.{unknown_id}
 use Rattle.lazy_dfa.specs.LeftProgress.{progress_reached, progress_finished, is_quit_error, FailsAtUnit, LeftAt}

@@ -10,9 +10,9 @@ use Rattle.lazy_dfa.specs.Changes.{Changes, IsMadeAt}
 use Rattle.lazy_dfa.specs.Courses.{state_after, stops_after}
 use Rattle.lazy_dfa.specs.declared.cache_error.CacheError.{CacheError}
 use Rattle.lazy_dfa.specs.declared.cache_error.CacheError.TheVariants.{GaveUp, NoMemory}
-use Rattle.lazy_dfa.specs.declared.scan_steps.Seen.{Seen}
-use Rattle.lazy_dfa.specs.declared.scan_steps.Turn.{Turn}
-use Rattle.lazy_dfa.specs.declared.scan_steps.Turn.TheVariants.{GoesOn, Ends, Quits}
+use Rattle.lazy_dfa.specs.declared.search.scan_steps.Seen.{Seen}
+use Rattle.lazy_dfa.specs.declared.search.scan_steps.Turn.{Turn}
+use Rattle.lazy_dfa.specs.declared.search.scan_steps.Turn.TheVariants.{GoesOn, Ends, Quits}
 use Rattle.lazy_dfa.specs.Dfas.{Dfa, reader}
 use Rattle.lazy_dfa.specs.Ids.{dead_id, quit_id}
 use Rattle.lazy_dfa.specs.Linked.{IsLinkedOver, HasCleared, GrowsOrClears, IsMoved}

@@ -14,7 +14,7 @@ use Rattle.nfa_core.specs.NfaValue.{is_capture}
 use Rattle.nfa_core.specs.Ways.{offset_of}
 use Rattle.lazy_dfa.specs.Caches.{CacheValue, greatest, progress_len, has_no_room}
 use Rattle.lazy_dfa.specs.Courses.{state_after}
-use Rattle.lazy_dfa.specs.declared.progress.Progress.{Progress}
+use Rattle.lazy_dfa.specs.declared.cache.progress.Progress.{Progress}
 use Rattle.lazy_dfa.specs.Dfas.{Dfa, reader}
 use Rattle.lazy_dfa.specs.Linked.{scans_of, start_from}
 use Rattle.lazy_dfa.specs.Scans.{index_at, first_value, start_name}

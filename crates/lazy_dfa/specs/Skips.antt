@@ -1,8 +1,8 @@
 -- What a cache stores so that searches can skip bytes.
 use Rattle.std.specs.Prelude.{◌≡◌, ℕ, ◌+◌, ◌<◌, ◌≤◌, true, false, Bool, List, Some, IfSome, slice_index_or}
-use Rattle.lazy_dfa.specs.declared.half_tables.HalfTables.{HalfTables}
-use Rattle.lazy_dfa.specs.declared.accel_bytes.Leaving.{Leaving}
-use Rattle.lazy_dfa.specs.declared.skip.Skip.{Skip}
+use Rattle.lazy_dfa.specs.declared.accel.half_tables.HalfTables.{HalfTables}
+use Rattle.lazy_dfa.specs.declared.accel.accel_bytes.Leaving.{Leaving}
+use Rattle.lazy_dfa.specs.declared.accel.skip.Skip.{Skip}
 use Rattle.lazy_dfa.specs.ByteTests.{in_halves}
 use Rattle.lazy_dfa.specs.Dfas.{class_of}
 use Rattle.lazy_dfa.specs.Ids.{tag}

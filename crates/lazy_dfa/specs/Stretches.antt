@@ -4,7 +4,7 @@ use Rattle.lazy_dfa.specs.Caches.{CacheValue, IsRow}
 use Rattle.lazy_dfa.specs.Dfas.{Dfa}
 use Rattle.lazy_dfa.specs.Ids.{tag}
 use Rattle.lazy_dfa.specs.Points.{GoesTo, point}
-use Rattle.lazy_dfa.specs.declared.runs.Moved.{Moved}
+use Rattle.lazy_dfa.specs.declared.search.runs.Moved.{Moved}
 
 -- Over known steps, reading goes from an offset and a state to another offset, which is at most `end`, and to a state
 -- without a tag.

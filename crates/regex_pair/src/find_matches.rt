@@ -3,6 +3,7 @@ ghost use Rattle.std.specs.Prelude.{◌≡◌, ◌+◌, ◌<◌, ◌≤◌, fals
 ghost use Rattle.std.specs.Iterator.{at_most};
 ghost use Rattle.search_types.specs.AllAnswers.{is_repeat};
 ghost use Rattle.search_types.specs.Inputs.{IsSpanOf};
+ghost use Rattle.lazy_dfa.specs.Blanks.{FitsLedger};
 ghost use Rattle.regex_pair.specs.Finding.{finding_all, search_at, IsNextAnswer, IsPositioned, KeepsTwice};
 ghost use Rattle.regex_pair.specs.FindSteps.{searches_by, finds_from, caches_of, borrow_name_of, items_left, MayGoOn, FindsNext};
 ghost use Rattle.regex_pair.specs.PairAnswers.{AnswersPair};
@@ -26,12 +27,8 @@ fn search_counted<L: Ledger, M: Ledger>(
     second: Blank,
 ) -> Result<Option<Match>, MatchError>
     requires own { AreCachesOf re.now cache.old }
-    requires name1 { first.name ≡ L.name }
-    requires parts1 { first.parts ≡ L.parts }
-    requires some1 { 0 < first.parts }
-    requires name2 { second.name ≡ M.name }
-    requires parts2 { second.parts ≡ M.parts }
-    requires some2 { 0 < second.parts }
+    requires first { FitsLedger first.name first.parts L.name L.parts }
+    requires second { FitsLedger second.name second.parts M.name M.parts }
     ensures own { AreCachesOf re.now cache.new }
     ensures answer { AnswersPair re.now cache.new input.now result }
     ensures done { input.now.end < input.now.start → (result ≡ Ok None) × (cache.new ≡ cache.old) }

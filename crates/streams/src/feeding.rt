@@ -1,5 +1,6 @@
 //! Calls that feed a stream, and the one that closes it.
 ghost use Rattle.std.specs.Prelude.{◌≡◌, ◌+◌, ◌<◌, ◌≤◌, IfErr, IfOk, IfSome, length, map};
+ghost use Rattle.lazy_dfa.specs.Blanks.{FitsLedger};
 ghost use Rattle.lazy_dfa.specs.Caches.{IsCacheOf, IsRow};
 ghost use Rattle.lazy_dfa.specs.Dfas.{Dfa};
 ghost use Rattle.streams.specs.Errors.{IsStreamError};
@@ -88,12 +89,8 @@ fn read_open<L: Ledger, M: Ledger>(
     requires point { IsPointOf dfa.now point.now }
     requires is_open { IsOpenPoint point.now }
     requires room { offset + length bytes.now ≤ 0xFFFF_FFFF_FFFF_FFFF }
-    requires name1 { first.name ≡ L.name }
-    requires parts1 { first.parts ≡ L.parts }
-    requires some1 { 0 < first.parts }
-    requires name2 { second.name ≡ M.name }
-    requires parts2 { second.parts ≡ M.parts }
-    requires some2 { 0 < second.parts }
+    requires first { FitsLedger first.name first.parts L.name L.parts }
+    requires second { FitsLedger second.name second.parts M.name M.parts }
     ensures own { IsCacheOf dfa.now cache.new }
     ensures read { IfOk result (IsPieceRead dfa.now (begun_stream dfa.now point.now offset) bytes.now rows.old rows.new) }
     ensures err { IfErr result (IsStepError dfa.now) }
@@ -259,12 +256,8 @@ fn write_last<L: Ledger, M: Ledger>(
 ) -> (usize, Result<(), StreamError>)
     requires own { IsCacheOf dfa.now cache.old }
     requires point { IsPointOf dfa.now point.now }
-    requires name1 { first.name ≡ L.name }
-    requires parts1 { first.parts ≡ L.parts }
-    requires some1 { 0 < first.parts }
-    requires name2 { second.name ≡ M.name }
-    requires parts2 { second.parts ≡ M.parts }
-    requires some2 { 0 < second.parts }
+    requires first { FitsLedger first.name first.parts L.name L.parts }
+    requires second { FitsLedger second.name second.parts M.name M.parts }
     ensures own { IsCacheOf dfa.now cache.new }
     ensures ends { IfOk result.1 (λ _. Appends rows.old rows.new 0 result.0 (map (stream_end offset) (last_at dfa.now point.now))) }
     ensures err { IfErr result.1 (IsLastError dfa.now (map (stream_end offset) (last_at dfa.now point.now)) (length rows.old) result.0) }

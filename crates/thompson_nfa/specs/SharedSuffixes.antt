@@ -1,7 +1,7 @@
 -- States that are shared by sequences of ranges that begin alike, where the automaton reads in reverse. A state reads a byte of
 -- a range and leads to the state of the ranges before it; the first range's state leads to the end that all have in common.
-use Rattle.std.specs.Prelude.{◌≡◌, ℕ, ◌<◌, ◌≤◌, List, [], ◌∷◌, ◌++◌, length, Some}
-use Rattle.nfa_core.specs.BuilderStates.{Assembly, range_draft}
+use Rattle.std.specs.Prelude.{◌≡◌, ℕ, ◌<◌, ◌≤◌, false, List, [], ◌∷◌, ◌++◌, length, Some}
+use Rattle.nfa_core.specs.BuilderStates.{Assembly, draft_at, is_sparse, range_draft}
 use Rattle.thompson_nfa.specs.Added.{AddsDraft, Led}
 use Rattle.thompson_nfa.specs.SlotTables.{SlotTable, held_at, with_held}
 use Rattle.thompson_nfa.specs.declared.utf8_suffix_map.Utf8SuffixKey.{Utf8SuffixKey}
@@ -31,6 +31,11 @@ pub data SharesRanges (end : ℕ) (old : Assembly) (map : SlotTable Utf8SuffixKe
   shares_more : (mid new : Assembly) (kept changed : SlotTable Utf8SuffixKey) (next id : ℕ) (ranges : List (ℕ × ℕ)) (range : ℕ × ℕ) →
       SharesRanges end old map mid kept next ranges → SharesRange mid new kept changed next range id →
       SharesRanges end old map new changed id (ranges ++ range ∷ [])
+
+-- the state is one of the builder's, of a kind to which further ways can be added
+pub record TakesWays (b : Assembly) (choice : ℕ) : Type 0 where
+  pub inside : choice < length b.drafts
+  pub kind : is_sparse (draft_at b.drafts choice) ≡ false
 
 -- The choice has one more way, to the states of a sequence of at most four ranges. The state of the last range is new: no
 -- sequence is another one, or the beginning of another.

@@ -10,7 +10,7 @@ ghost use Rattle.nfa_core.specs.BuilderStates.{draft_at, is_sparse};
 ghost use Rattle.thompson_nfa.specs.ByteRoom.{sequence_bytes};
 ghost use Rattle.thompson_nfa.specs.Compiled.{Makes, Weighs, Does};
 ghost use Rattle.thompson_nfa.specs.Refusals.{Stays, Quits, ExceedsLimit};
-ghost use Rattle.thompson_nfa.specs.SharedSuffixes.{key_of, AddsRange, SharesRange, SharesRanges, AddsSequence, AddsSequences};
+ghost use Rattle.thompson_nfa.specs.SharedSuffixes.{key_of, AddsRange, SharesRange, SharesRanges, TakesWays, AddsSequence, AddsSequences};
 ghost use Rattle.thompson_nfa.specs.SlotTables.{is_ready};
 
 use crate::compiling::Fragment;
@@ -136,8 +136,7 @@ fn add_sequence_reverse(
 ) -> Result<(), BuildError>
     requires ready { IsTrue (is_ready suffixes.old) }
     requires places { 0 < suffixes.old.capacity }
-    requires choice { choice < length builder.old.drafts }
-    requires kind { is_sparse (draft_at builder.old.drafts choice) ≡ false }
+    requires choice { TakesWays builder.old choice }
     requires some { 1 ≤ length (ranges_of_sequence sequence.now) }
     requires few { length (ranges_of_sequence sequence.now) ≤ 4 }
     requires rising { All (λ r. r.0 ≤ r.1) (ranges_of_sequence sequence.now) }

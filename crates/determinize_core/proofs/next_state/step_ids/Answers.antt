@@ -18,7 +18,7 @@ loop-id-init g c =
             (g.S.NameSet.names c.args.set.now) c.requires.none,
       );
       below = subst (λ (xs : List ℕ). AreBelow (length c.args.nfa.now.automaton.states) xs) (sym all)
-          (has_from_all _ c.args.state.now.ids c.requires.below);
+          (has_from_all _ c.args.state.now.ids c.requires.state.below);
       empty = c.requires.empty;
       bound = refl;
     }
@@ -66,7 +66,7 @@ returns-then-last-clause-closed g c =
 pub returns-then-last-clause-cost : goal.returns-then-last-clause-cost
 returns-then-last-clause-cost g c =
     let all : length c.args.state.now.ids ≤ length c.args.nfa.now.automaton.states =
-    few_once _ c.args.state.now.ids c.requires.once (has_from_all _ c.args.state.now.ids c.requires.below) in
+    few_once _ c.args.state.now.ids c.requires.state.once (has_from_all _ c.args.state.now.ids c.requires.state.below) in
     let cost = stop_cost c.args.kind c.args.nfa.now.automaton (unit_byte c.args.unit) c.args.looks
     c.args.state.now.ids c.args.builder.now c.args.steps.now c.loop-id.id-iterator c.next.new.self
     c.loop-id.invariant.at.0 c.in-Some.id c.loop-id.builder c.list_match.new.builder
@@ -89,7 +89,7 @@ returns-clause-closed g c = end_closed c.args.kind c.args.nfa.now.automaton (uni
 pub returns-clause-cost : goal.returns-clause-cost
 returns-clause-cost g c =
     let all : length c.args.state.now.ids ≤ length c.args.nfa.now.automaton.states =
-    few_once _ c.args.state.now.ids c.requires.once (has_from_all _ c.args.state.now.ids c.requires.below) in
+    few_once _ c.args.state.now.ids c.requires.state.once (has_from_all _ c.args.state.now.ids c.requires.state.below) in
     let cost = end_cost c.args.kind c.args.nfa.now.automaton (unit_byte c.args.unit) c.args.looks
     c.args.state.now.ids c.args.builder.now c.args.steps.now c.loop-id.id-iterator
     c.loop-id.invariant.at.0 c.loop-id.builder (g.S.NameSet.names c.loop-id.set) c.loop-id.steps c.loop-id.invariant.at.1
@@ -100,7 +100,7 @@ returns-clause-cost g c =
 pub returns-in_err-last-clause-cost : goal.returns-in_err-last-clause-cost
 returns-in_err-last-clause-cost g c =
     let all : length c.args.state.now.ids ≤ length c.args.nfa.now.automaton.states =
-    few_once _ c.args.state.now.ids c.requires.once (has_from_all _ c.args.state.now.ids c.requires.below) in
+    few_once _ c.args.state.now.ids c.requires.state.once (has_from_all _ c.args.state.now.ids c.requires.state.below) in
     let low : All (λ q. q < length c.args.nfa.now.automaton.states) (g.S.NameSet.names c.loop-id.set) =
     subst (λ (n : ℕ). All (λ q. q < n) (g.S.NameSet.names c.loop-id.set)) (c.loop-id.invariant.bound
     ∙ c.requires.bound) c.len.ensures.below in
@@ -113,7 +113,7 @@ returns-in_err-last-clause-cost g c =
 pub returns-in_err-close_target-clause-cost : goal.returns-in_err-close_target-clause-cost
 returns-in_err-close_target-clause-cost g c =
     let all : length c.args.state.now.ids ≤ length c.args.nfa.now.automaton.states =
-    few_once _ c.args.state.now.ids c.requires.once (has_from_all _ c.args.state.now.ids c.requires.below) in
+    few_once _ c.args.state.now.ids c.requires.state.once (has_from_all _ c.args.state.now.ids c.requires.state.below) in
     let cost = target_refused c.args.kind c.args.nfa.now.automaton (unit_byte c.args.unit) c.args.looks
     c.args.state.now.ids c.args.builder.now c.args.steps.now c.loop-id.id-iterator
     c.loop-id.invariant.at.0 c.loop-id.builder (g.S.NameSet.names c.loop-id.set) c.loop-id.steps c.loop-id.invariant.at.1

@@ -29,8 +29,8 @@ loop-k-preserved g c = record {
   once = behind_once c.args.nfa.now.automaton c.args.nfa.now.terminator c.args.kind c.loop-k.last
       (unit_byte c.u8-unit.result) c.in_ok-behind.behind c.in_ok-behind.ensures.value;
   empty = c.in_ok-behind.ensures.stack;
-  bound1 = c.in_ok-behind.ensures.bound1;
-  bound2 = c.in_ok-behind.ensures.bound2;
+  bound1 = c.in_ok-behind.ensures.sets.bound1;
+  bound2 = c.in_ok-behind.ensures.sets.bound2;
   cost = cost_on c.args.nfa.now.automaton c.args.steps.now c.loop-k.steps c.step_on.new.steps c.loop-k.k c.loop-k.k
       c.loop-k.invariant.cost c.step_on.ensures.cost (omega arith);
 }
@@ -65,56 +65,44 @@ returns-clause-cost g c =
     cost_on c.args.nfa.now.automaton c.args.steps.now c.loop-k.steps c.step_on-2.new.steps c.loop-k.k (length c.args.bytes.now)
     c.loop-k.invariant.cost c.step_on-2.ensures.cost (omega arith)
 
-pub step_on-requires-clause-bound1 : goal.step_on-requires-clause-bound1
-step_on-requires-clause-bound1 g c = c.loop-k.invariant.bound1
+pub step_on-requires-clause-sets : goal.step_on-requires-clause-sets
+step_on-requires-clause-sets g c = record { bound1 = c.loop-k.invariant.bound1; bound2 = c.loop-k.invariant.bound2 }
 
-pub step_on-requires-clause-bound2 : goal.step_on-requires-clause-bound2
-step_on-requires-clause-bound2 g c = c.loop-k.invariant.bound2
-
-pub step_on-requires-clause-below : goal.step_on-requires-clause-below
-step_on-requires-clause-below g c = c.loop-k.invariant.below
-
-pub step_on-requires-clause-once : goal.step_on-requires-clause-once
-step_on-requires-clause-once g c = c.loop-k.invariant.once
+pub step_on-requires-clause-state : goal.step_on-requires-clause-state
+step_on-requires-clause-state g c = record { below = c.loop-k.invariant.below; once = c.loop-k.invariant.once }
 
 pub step_on-requires-clause-empty : goal.step_on-requires-clause-empty
 step_on-requires-clause-empty g c = c.loop-k.invariant.empty
 
-pub step_on-requires-2-clause-bound1 : goal.step_on-requires-2-clause-bound1
-step_on-requires-2-clause-bound1 g c = c.loop-k.invariant.bound1
+pub step_on-requires-2-clause-sets : goal.step_on-requires-2-clause-sets
+step_on-requires-2-clause-sets g c = record { bound1 = c.loop-k.invariant.bound1; bound2 = c.loop-k.invariant.bound2 }
 
-pub step_on-requires-2-clause-bound2 : goal.step_on-requires-2-clause-bound2
-step_on-requires-2-clause-bound2 g c = c.loop-k.invariant.bound2
-
-pub step_on-requires-2-clause-below : goal.step_on-requires-2-clause-below
-step_on-requires-2-clause-below g c = c.loop-k.invariant.below
-
-pub step_on-requires-2-clause-once : goal.step_on-requires-2-clause-once
-step_on-requires-2-clause-once g c = c.loop-k.invariant.once
+pub step_on-requires-2-clause-state : goal.step_on-requires-2-clause-state
+step_on-requires-2-clause-state g c = record { below = c.loop-k.invariant.below; once = c.loop-k.invariant.once }
 
 pub step_on-requires-2-clause-empty : goal.step_on-requires-2-clause-empty
 step_on-requires-2-clause-empty g c = c.loop-k.invariant.empty
 
 pub returns-in_err-behind-clause-bound1 : goal.returns-in_err-behind-clause-bound1
-returns-in_err-behind-clause-bound1 g c = c.step_on.ensures.bound1
+returns-in_err-behind-clause-bound1 g c = c.step_on.ensures.sets.bound1
 
 pub returns-in_err-behind-clause-bound2 : goal.returns-in_err-behind-clause-bound2
-returns-in_err-behind-clause-bound2 g c = c.step_on.ensures.bound2
+returns-in_err-behind-clause-bound2 g c = c.step_on.ensures.sets.bound2
 
 pub returns-in_err-end-clause-bound1 : goal.returns-in_err-end-clause-bound1
-returns-in_err-end-clause-bound1 g c = c.step_on-2.ensures.bound1
+returns-in_err-end-clause-bound1 g c = c.step_on-2.ensures.sets.bound1
 
 pub returns-in_err-end-clause-bound2 : goal.returns-in_err-end-clause-bound2
-returns-in_err-end-clause-bound2 g c = c.step_on-2.ensures.bound2
+returns-in_err-end-clause-bound2 g c = c.step_on-2.ensures.sets.bound2
 
 pub returns-in_err-push-clause-bound1 : goal.returns-in_err-push-clause-bound1
-returns-in_err-push-clause-bound1 g c = c.step_on-2.ensures.bound1
+returns-in_err-push-clause-bound1 g c = c.step_on-2.ensures.sets.bound1
 
 pub returns-in_err-push-clause-bound2 : goal.returns-in_err-push-clause-bound2
-returns-in_err-push-clause-bound2 g c = c.step_on-2.ensures.bound2
+returns-in_err-push-clause-bound2 g c = c.step_on-2.ensures.sets.bound2
 
 pub returns-clause-bound1 : goal.returns-clause-bound1
-returns-clause-bound1 g c = c.step_on-2.ensures.bound1
+returns-clause-bound1 g c = c.step_on-2.ensures.sets.bound1
 
 pub returns-clause-bound2 : goal.returns-clause-bound2
-returns-clause-bound2 g c = c.step_on-2.ensures.bound2
+returns-clause-bound2 g c = c.step_on-2.ensures.sets.bound2

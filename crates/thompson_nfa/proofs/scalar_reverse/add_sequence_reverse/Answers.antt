@@ -18,11 +18,11 @@ returns-in_err-first-clause-refused c = handed _ _ c.in_err-first.field-0.0 c.fr
 
 pub lead-requires-clause-from : goal.lead-requires-clause-from
 lead-requires-clause-from c = still_there _ _ _ _ _ _ _ _ _ _ _ c.in_ok-next.ensures.shared c.in_ok-first.ensures.added c.args.choice
-    c.requires.choice
+    c.requires.choice.inside
 
 pub lead-requires-clause-kind : goal.lead-requires-clause-kind
 lead-requires-clause-kind c = still_kind _ _ _ _ _ _ _ _ _ _ _ c.in_ok-next.ensures.shared c.in_ok-first.ensures.added c.args.choice
-    c.requires.choice c.requires.kind
+    c.requires.choice.inside c.requires.choice.kind
 
 pub returns-in_err-lead-clause-refused : goal.returns-in_err-lead-clause-refused
 returns-in_err-lead-clause-refused c = handed _ _ c.in_err-lead.field-0.0 c.from_residual-in_err-lead.ensures.1

@@ -13,11 +13,10 @@ pub add_sequence_reverse-requires-clause-ready : goal.add_sequence_reverse-requi
 add_sequence_reverse-requires-clause-ready c = met_ready _ _ _ _ _ _ c.args.first c.args.last _ c.loop-sequence.invariant c.requires.ready
 
 pub add_sequence_reverse-requires-clause-choice : goal.add_sequence_reverse-requires-clause-choice
-add_sequence_reverse-requires-clause-choice c = met_there _ _ _ _ _ _ c.args.first c.args.last _ c.loop-sequence.invariant c.requires.choice
-
-pub add_sequence_reverse-requires-clause-kind : goal.add_sequence_reverse-requires-clause-kind
-add_sequence_reverse-requires-clause-kind c = met_kind _ _ _ _ _ _ c.args.first c.args.last _ c.loop-sequence.invariant c.requires.choice
-    c.requires.kind
+add_sequence_reverse-requires-clause-choice c = record {
+  inside = met_there _ _ _ _ _ _ c.args.first c.args.last _ c.loop-sequence.invariant c.requires.choice;
+  kind = met_kind _ _ _ _ _ _ c.args.first c.args.last _ c.loop-sequence.invariant c.requires.choice c.requires.kind;
+}
 
 pub add_sequence_reverse-requires-clause-rising : goal.add_sequence_reverse-requires-clause-rising
 add_sequence_reverse-requires-clause-rising c = met_rising _ _ _ _ _ _ c.args.first c.args.last _ c.loop-sequence.invariant _ _
