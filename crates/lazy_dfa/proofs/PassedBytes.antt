@@ -2,5 +2,6 @@
 
 pub mod ByteTestLemmas
 pub mod HalfTableLemmas
+pub mod RowTableLemmas
 pub mod SkipLemmas
 pub mod PairLemmas

@@ -1,7 +1,8 @@
 -- Tests of single bytes that can test many bytes at once.
 use Rattle.std.specs.Prelude.{◌≡◌, ◌+◌, ◌-◌, ◌%◌, ◌/◌, ◌<◌, ◌≤◌, ◌==◌, ℕ, List, length, map, slice_index, slice_index_or}
-use Rattle.std.specs.Prelude.{◌&&◌, Bool, false, not, nat_le, if◌then◌else◌, bit_and}
+use Rattle.std.specs.Prelude.{◌&&◌, Bool, false, not, nat_le, nat_lt, if◌then◌else◌, bit_and}
 use Rattle.lazy_dfa.specs.declared.accel.byte_tests.ByteRange.{ByteRange}
+use Rattle.lazy_dfa.specs.declared.accel.row_tables.TheConstants.{BITS}
 
 -- whether a bit of a lane is set
 abbrev pub has_bits : ℕ → Bool
@@ -18,6 +19,14 @@ in_range r byte = nat_le (wrapped (byte + (256 - r.first))) r.behind
 -- the marks of the byte's low half and of its high half have a bit in common
 abbrev pub in_halves : List ℕ → List ℕ → ℕ → Bool
 in_halves low high byte = has_bits (bit_and (slice_index low (byte % 16)) (slice_index high (byte / 16)))
+
+-- the row of the byte's low half, of bytes below 128 or of the others
+abbrev pub row_of : List ℕ → List ℕ → ℕ → ℕ
+row_of below above byte = if nat_lt byte 128 then slice_index below (byte % 16) else slice_index above (byte % 16)
+
+-- the row of the byte's low half has the bit of its high half
+abbrev pub in_rows : List ℕ → List ℕ → ℕ → Bool
+in_rows below above byte = has_bits (bit_and (row_of below above byte) (slice_index BITS (byte / 16)))
 
 -- a vector that has sixteen items twice
 pub record IsTwice (items : List ℕ) (lanes : List ℕ) : Type 0 where

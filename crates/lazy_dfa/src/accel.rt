@@ -6,4 +6,5 @@ mod byte_tests;
 mod cache_skip;
 mod half_tables;
 mod pairs;
+mod row_tables;
 pub(crate) mod skip;

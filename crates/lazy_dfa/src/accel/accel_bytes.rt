@@ -5,6 +5,7 @@ ghost use Rattle.lazy_dfa.specs.AccelBytes.{leaves};
 
 use crate::accel::byte_tests::{ByteRange, ByteTest, Either};
 use crate::accel::half_tables::HalfTables;
+use crate::accel::row_tables::RowTables;
 use search_core::ByteSet;
 
 /// The bytes that leave a state, in a form by which many bytes are tested at once.
@@ -18,14 +19,16 @@ pub(crate) enum Leaving {
     Three(u8, u8, u8),
     /// The bytes of one range leave.
     Range(ByteRange),
-    /// The bytes of up to four ranges leave. If there are fewer, the first one is repeated.
-    Ranges(ByteRange, ByteRange, ByteRange, ByteRange),
-    /// The bytes that pass these tables leave.
+    /// The bytes of two ranges leave.
+    Ranges(ByteRange, ByteRange),
+    /// The bytes that pass these two tables leave.
     Halves(HalfTables),
+    /// The bytes that pass these three tables leave.
+    Rows(RowTables),
 }
 
 impl Leaving {
-    /// The bytes of a set, if one of the forms fits.
+    /// The bytes of a set, in the form that is tested fastest.
     pub(crate) fn new(set: &ByteSet) -> Option<Leaving>
         ensures { IfSome result (λ t. (byte : ℕ) → byte < 256 → leaves t byte ≡ has set.now byte) }
     {
@@ -35,7 +38,10 @@ impl Leaving {
         if let Some(ranges) = few_ranges(set) {
             return ranges.checked(set);
         }
-        Leaving::Halves(HalfTables::new(set)?).checked(set)
+        if let Some(tables) = HalfTables::new(set) {
+            return Leaving::Halves(tables).checked(set);
+        }
+        Leaving::Rows(RowTables::new(set)).checked(set)
     }
 
     /// Whether at most three bytes leave.
@@ -56,8 +62,9 @@ impl Leaving {
             Leaving::Two(a, b) => byte == *a || byte == *b,
             Leaving::Three(a, b, c) => byte == *a || byte == *b || byte == *c,
             Leaving::Range(a) => a.passes(byte),
-            Leaving::Ranges(a, b, c, d) => { Either(Either(*a, *b), Either(*c, *d)).passes(byte) }
+            Leaving::Ranges(a, b) => Either(*a, *b).passes(byte),
             Leaving::Halves(tables) => tables.passes(byte),
+            Leaving::Rows(tables) => tables.passes(byte),
         }
     }
 
@@ -93,17 +100,15 @@ fn few_bytes(set: &ByteSet) -> Option<Leaving> {
     Some(Leaving::Three(a, b, c))
 }
 
-/// The ranges of a set of at most four.
+/// The ranges of a set of one or two.
 fn few_ranges(set: &ByteSet) -> Option<Leaving> {
     let mut ranges = set.iter_ranges();
     let first = ByteRange::new(ranges.next()?);
     let Some(second) = ranges.next() else {
         return Some(Leaving::Range(first));
     };
-    let third = ranges.next().map_or(first, ByteRange::new);
-    let fourth = ranges.next().map_or(first, ByteRange::new);
     if ranges.next().is_some() {
         return None;
     }
-    Some(Leaving::Ranges(first, ByteRange::new(second), third, fourth))
+    Some(Leaving::Ranges(first, ByteRange::new(second)))
 }

@@ -226,11 +226,12 @@ fn circle_by(
             circle_few(dfa, cache, &three, skip, haystack, id, from, end)
         }
         Leaving::Range(a) => circle(dfa, cache, a, haystack, id, from, end, credit),
-        Leaving::Ranges(a, b, c, d) => {
-            let four = Either(Either(*a, *b), Either(*c, *d));
-            circle(dfa, cache, &four, haystack, id, from, end, credit)
+        Leaving::Ranges(a, b) => {
+            let two = Either(*a, *b);
+            circle(dfa, cache, &two, haystack, id, from, end, credit)
         }
         Leaving::Halves(tables) => circle(dfa, cache, tables, haystack, id, from, end, credit),
+        Leaving::Rows(tables) => circle(dfa, cache, tables, haystack, id, from, end, credit),
     }
 }
 

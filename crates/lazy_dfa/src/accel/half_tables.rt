@@ -91,7 +91,7 @@ impl ByteTest for HalfTables {
 
 /// The entries of a table for the low half of each byte.
 #[inline(always)]
-fn by_low_half(table: &[u8; 16], bytes: u8x32) -> u8x32
+pub(crate) fn by_low_half(table: &[u8; 16], bytes: u8x32) -> u8x32
     ensures { result ≡ map (λ x. slice_index table.now (x % 16)) bytes }
 {
     twice(table).swizzle_dyn_within::<16>(bytes & u8x32::splat(15))
@@ -99,7 +99,7 @@ fn by_low_half(table: &[u8; 16], bytes: u8x32) -> u8x32
 
 /// The entries of a table for the high half of each byte.
 #[inline(always)]
-fn by_high_half(table: &[u8; 16], bytes: u8x32) -> u8x32
+pub(crate) fn by_high_half(table: &[u8; 16], bytes: u8x32) -> u8x32
     ensures { result ≡ map (λ x. slice_index table.now (x / 16)) bytes }
 {
     twice(table).swizzle_dyn_within::<16>(bytes >> u8x32::splat(4))

@@ -44,3 +44,11 @@ circle-requires-in-Halves-clause-stays c = λ byte l fails.
     let low : skip.stop < tag = omega (arith, stop, c.requires.untagged) in
     subst (λ (id : ℕ). cell_by c.args.cache.now.cells c.args.cache.now.classes id byte ≡ id) (sym stop)
     (c.skip-skip.ensures.left low byte l (subst (λ (t : Leaving). leaves t byte ≡ false) (sym c.in-Halves.is) fails))
+
+pub circle-requires-in-Rows-clause-stays : goal.circle-requires-in-Rows-clause-stays
+circle-requires-in-Rows-clause-stays c = λ byte l fails.
+    let skip = c.skip-skip.result.now in
+    let stop : c.args.id ≡ skip.stop = grind (arith, c.ne.ensures, c.if-ne.false) in
+    let low : skip.stop < tag = omega (arith, stop, c.requires.untagged) in
+    subst (λ (id : ℕ). cell_by c.args.cache.now.cells c.args.cache.now.classes id byte ≡ id) (sym stop)
+    (c.skip-skip.ensures.left low byte l (subst (λ (t : Leaving). leaves t byte ≡ false) (sym c.in-Rows.is) fails))
