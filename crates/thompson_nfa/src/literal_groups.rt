@@ -27,7 +27,10 @@ fn place_of(bytes: &[u8], byte: u8) -> usize
     ensures is_byte { byte < 256 }
 {
     let mut at = 0;
-    while at < bytes.len() && bytes[at] < byte {
+    for other in bytes {
+        if *other >= byte {
+            return at;
+        }
         at += 1;
     }
     at
@@ -149,7 +152,7 @@ fn edges_by(alloc: Global, bytes: &[u8], first: usize) -> Result<Vec<Edge>, Allo
     requires { first + length bytes.now ≤ 18446744073709551615 }
     ensures { IfOk result (λ v. v.items ≡ edges_by first bytes.now) }
 {
-    let mut edges = Vec::new(alloc);
+    let mut edges = Vec::with_capacity(alloc, bytes.len())?;
     for i in 0..bytes.len() {
         edges.push(edge_by(bytes[i], first + i))?;
     }
