@@ -1,5 +1,5 @@
 -- Strings of bytes in groups, by the bytes with which they begin.
-use Rattle.std.specs.Prelude.{◌≡◌, ℕ, suc, ◌+◌, ◌<◌, ◌≤◌, min, List, [], ◌∷◌, ◌++◌, map, length, get_or, Option, Some, None, nat_eq, nat_le}
+use Rattle.std.specs.Prelude.{◌≡◌, ℕ, suc, ◌+◌, ◌<◌, ◌≤◌, List, [], ◌∷◌, ◌++◌, map, length, get_or, nat_eq, nat_lt}
 use Rattle.std.specs.Prelude.{if◌then◌else◌}
 use denote.Ref.{Bor}
 use Rattle.thompson_nfa.specs.declared.literal_groups.Edge.{Edge}
@@ -18,19 +18,10 @@ abbrev pub tails : ℕ → List (List ℕ) → List (List ℕ)
 tails b [] = []
 tails b (w ∷ ws) = with_tail b w (tails b ws)
 
-abbrev pub lesser : ℕ → Option ℕ → Option ℕ
-lesser a None = Some a
-lesser a (Some b) = Some (min a b)
-
--- the lesser of `least` and the first byte, if that byte is `low` or above; otherwise `least`
-abbrev pub with_first : ℕ → List ℕ → Option ℕ → Option ℕ
-with_first low [] least = least
-with_first low (a ∷ w) least = if nat_le low a then lesser a least else least
-
--- the least byte, from `low` on, with which a string begins
-abbrev pub next_of : ℕ → List (List ℕ) → Option ℕ
-next_of low [] = None
-next_of low (w ∷ ws) = with_first low w (next_of low ws)
+-- how many of the bytes come before the first that isn't less than b
+abbrev pub place_of : ℕ → List ℕ → ℕ
+place_of b [] = 0
+place_of b (a ∷ bs) = if nat_lt a b then suc (place_of b bs) else 0
 
 -- how many strings come before the first empty one
 abbrev pub run_of : List (List ℕ) → ℕ
@@ -61,6 +52,22 @@ Ascends low (e ∷ es) high = (low ≤ e.byte) × (e.byte < 256) × Ascends (e.b
 abbrev pub LeadWithin : ℕ → ℕ → List Edge → Type 0
 LeadWithin first end [] = Unit {0}
 LeadWithin first end (e ∷ es) = (first ≤ e.next) × (e.next < end) × LeadWithin first end es
+
+-- an edge by each of the bytes, to groups with the numbers from `next` on
+abbrev pub edges_by : ℕ → List ℕ → List Edge
+edges_by next [] = []
+edges_by next (b ∷ bs) = record { byte = b; next = next } ∷ edges_by (next + 1) bs
+
+-- the strings of groups, each group after its byte
+abbrev pub grouped_strings : List ℕ → List (List (List ℕ)) → List (List ℕ)
+grouped_strings [] groups = []
+grouped_strings (b ∷ bs) [] = []
+grouped_strings (b ∷ bs) (g ∷ groups) = each_after b g ++ grouped_strings bs groups
+
+-- these are bytes, each greater than the one before, and none is less than `low`
+abbrev pub BytesAscend : ℕ → List ℕ → Type 0
+BytesAscend low [] = low ≤ 256
+BytesAscend low (b ∷ bs) = (low ≤ b) × (b < 256) × BytesAscend (b + 1) bs
 
 -- how many bytes there are in all
 abbrev pub bytes_in : List (List ℕ) → ℕ
@@ -95,3 +102,12 @@ pub record AddsGroups (old new : List (List (List ℕ))) (edges : ℕ) (strings 
   pub some : AllSome added
   pub room : length new + bytes_in_all new ≤ length old + bytes_in_all old + bytes_in strings
   pub no_more : strings_in_all new ≤ strings_in_all old + length strings
+
+-- The groups have what follows each of these bytes in the strings that begin with it.
+pub record AreGroups (bytes : List ℕ) (groups : List (List (List ℕ))) (strings : List (List ℕ)) : Type 0 where
+  pub as_many : length bytes ≡ length groups
+  pub ascend : BytesAscend 0 bytes
+  pub same_tails : (c : ℕ) → tails c (grouped_strings bytes groups) ≡ tails c strings
+  pub some : AllSome groups
+  pub room : length groups + bytes_in_all groups ≤ bytes_in strings
+  pub no_more : strings_in_all groups ≤ length strings

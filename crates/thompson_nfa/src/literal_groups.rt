@@ -1,6 +1,6 @@
 //! Strings in groups, by the bytes with which they begin.
-ghost use Rattle.std.specs.Prelude.{◌≡◌, ◌+◌, ◌≤◌, ◌++◌, length, max, map, ℕ, List, IfOk, ◌<◌};
-ghost use Rattle.thompson_nfa.specs.LiteralGroups.{texts, tails, with_first, next_of, run_of, strings_of_groups, IsChunk, AddsGroups};
+ghost use Rattle.std.specs.Prelude.{◌≡◌, ◌+◌, ◌≤◌, ◌++◌, ◌∷◌, [], true, false, length, max, map, get_or, set, take, drop, ℕ, List, IfOk, ◌<◌};
+ghost use Rattle.thompson_nfa.specs.LiteralGroups.{texts, run_of, strings_of_groups, place_of, edges_by, AreGroups, IsChunk, AddsGroups};
 
 use std::alloc::{AllocError, Global};
 
@@ -20,47 +20,143 @@ fn edge_by(byte: u8, next: usize) -> Edge
     Edge { byte, next }
 }
 
-/// What follows the byte in the strings that begin with it, in order.
-fn tails<'a>(alloc: Global, strings: &[&'a [u8]], byte: u8) -> Result<Vec<&'a [u8]>, AllocError>
-    ensures { IfOk result (λ v. texts v.items ≡ tails byte (texts strings.now)) }
+/// How many of the bytes come before the first that isn't less than `byte`.
+fn place_of(bytes: &[u8], byte: u8) -> usize
+    ensures value { result ≡ place_of byte bytes.now }
+    ensures within { result ≤ length bytes.now }
+    ensures is_byte { byte < 256 }
 {
-    let mut all = Vec::new(alloc);
-    for string in strings {
-        let Some((first, rest)) = string.split_first() else {
-            continue;
-        };
-        if *first == byte {
-            all.push(rest)?;
+    let mut at = 0;
+    for other in bytes {
+        if *other >= byte {
+            return at;
         }
+        at += 1;
     }
-    Ok(all)
+    at
 }
 
-/// The lesser of `least` and the string's first byte, if that byte is `low` or above; otherwise `least`.
-fn with_first(low: u16, string: &[u8], least: Option<u8>) -> Option<u8>
-    ensures { result ≡ with_first low string.now least }
+/// Whether the byte is at index `at`.
+fn is_at(bytes: &[u8], at: usize, byte: u8) -> bool
+    ensures yes { result ≡ true → (at < length bytes.now) × (get_or bytes.now at 0 ≡ byte) }
+    ensures no { result ≡ false → at < length bytes.now → get_or bytes.now at 0 ≡ byte → ⊥ }
 {
-    let Some((first, _)) = string.split_first() else {
-        return least;
+    at < bytes.len() && bytes[at] == byte
+}
+
+/// Appends a string to the group at index `at`.
+fn push_at<'a>(
+    groups: &mut Vec<Vec<&'a [u8]>>,
+    at: usize,
+    string: &'a [u8],
+) -> Result<(), AllocError>
+    requires { at < length groups.old.items }
+    ensures { IfOk result (λ _. strings_of_groups (λ g. g.items) groups.new.items ≡
+        set (strings_of_groups (λ g. g.items) groups.old.items) at
+        (get_or (strings_of_groups (λ g. g.items) groups.old.items) at [] ++ string.now ∷ [])) }
+{
+    groups[at].push(string)?;
+    Ok(())
+}
+
+/// A group of one string.
+fn group_of<'a>(alloc: Global, string: &'a [u8]) -> Result<Vec<&'a [u8]>, AllocError>
+    ensures { IfOk result (λ g. texts g.items ≡ string.now ∷ []) }
+{
+    let mut group = Vec::new(alloc);
+    group.push(string)?;
+    Ok(group)
+}
+
+/// Inserts the byte at index `at`, and there a group of one string.
+fn insert_at<'a>(
+    alloc: Global,
+    bytes: &mut Vec<u8>,
+    groups: &mut Vec<Vec<&'a [u8]>>,
+    at: usize,
+    byte: u8,
+    string: &'a [u8],
+) -> Result<(), AllocError>
+    requires bytes { at ≤ length bytes.old.items }
+    requires groups { at ≤ length groups.old.items }
+    ensures bytes { IfOk result (λ _. bytes.new.items ≡ take at bytes.old.items ++ byte ∷ drop at bytes.old.items) }
+    ensures groups { IfOk result (λ _. strings_of_groups (λ g. g.items) groups.new.items ≡
+        take at (strings_of_groups (λ g. g.items) groups.old.items) ++ (string.now ∷ []) ∷
+        drop at (strings_of_groups (λ g. g.items) groups.old.items)) }
+{
+    let group = group_of(alloc, string)?;
+    bytes.insert(at, byte)?;
+    groups.insert(at, group)?;
+    Ok(())
+}
+
+/// Adds what follows the byte in a string to the group of that byte. If there is none, it is made.
+fn add_tail<'a>(
+    alloc: Global,
+    bytes: &mut Vec<u8>,
+    groups: &mut Vec<Vec<&'a [u8]>>,
+    byte: u8,
+    tail: &'a [u8],
+) -> Result<(), AllocError>
+    requires { length bytes.old.items ≡ length groups.old.items }
+    ensures { IfOk result (λ _. (before : List (List ℕ)) →
+        AreGroups bytes.old.items (strings_of_groups (λ g. g.items) groups.old.items) before →
+        AreGroups bytes.new.items (strings_of_groups (λ g. g.items) groups.new.items) (before ++ (byte ∷ tail.now) ∷ [])) }
+{
+    let at = place_of(bytes, byte);
+    if is_at(bytes, at, byte) {
+        push_at(groups, at, tail)?;
+        return Ok(());
+    }
+    insert_at(alloc, bytes, groups, at, byte, tail)?;
+    Ok(())
+}
+
+/// Adds what follows the first byte of a string to the group of that byte. An empty string is left out.
+fn add_string<'a>(
+    alloc: Global,
+    bytes: &mut Vec<u8>,
+    groups: &mut Vec<Vec<&'a [u8]>>,
+    string: &'a [u8],
+) -> Result<(), AllocError>
+    requires { length bytes.old.items ≡ length groups.old.items }
+    ensures { IfOk result (λ _. (before : List (List ℕ)) →
+        AreGroups bytes.old.items (strings_of_groups (λ g. g.items) groups.old.items) before →
+        AreGroups bytes.new.items (strings_of_groups (λ g. g.items) groups.new.items) (before ++ string.now ∷ [])) }
+{
+    let Some((first, rest)) = string.split_first() else {
+        return Ok(());
     };
-    if u16::from(*first) < low {
-        return least;
-    }
-    match least {
-        None => Some(*first),
-        Some(byte) => Some((*first).min(byte)),
-    }
+    add_tail(alloc, bytes, groups, *first, rest)?;
+    Ok(())
 }
 
-/// The least byte, from `low` on, with which a string begins.
-fn next_byte(strings: &[&[u8]], low: u16) -> Option<u8>
-    ensures { result ≡ next_of low (texts strings.now) }
+/// Fills the bytes with which strings begin, in ascending order, and a group for each of them, of what follows it in the strings.
+fn add_strings<'a>(
+    alloc: Global,
+    bytes: &mut Vec<u8>,
+    groups: &mut Vec<Vec<&'a [u8]>>,
+    strings: &[&'a [u8]],
+) -> Result<(), AllocError>
+    requires { AreGroups bytes.old.items (strings_of_groups (λ g. g.items) groups.old.items) [] }
+    ensures { IfOk result (λ _. AreGroups bytes.new.items (strings_of_groups (λ g. g.items) groups.new.items) (texts strings.now)) }
 {
-    let mut least = None;
-    for i in (0..strings.len()).rev() {
-        least = with_first(low, strings[i], least);
+    for string in strings {
+        add_string(alloc, bytes, groups, string)?;
     }
-    least
+    Ok(())
+}
+
+/// An edge by each of the bytes. They lead to groups with the numbers from `first` on.
+fn edges_by(alloc: Global, bytes: &[u8], first: usize) -> Result<Vec<Edge>, AllocError>
+    requires { first + length bytes.now ≤ 18446744073709551615 }
+    ensures { IfOk result (λ v. v.items ≡ edges_by first bytes.now) }
+{
+    let mut edges = Vec::with_capacity(alloc, bytes.len())?;
+    for i in 0..bytes.len() {
+        edges.push(edge_by(bytes[i], first + i))?;
+    }
+    Ok(edges)
 }
 
 /// How many strings come before the first empty one.
@@ -98,13 +194,12 @@ pub(crate) fn chunk<'a>(
     ensures chunk { IfOk result (λ edges. (before : List (List (List ℕ))) → length before ≡ first →
         IsChunk first (before ++ strings_of_groups (λ g. g.items) groups.new.items) edges.items (texts strings.now)) }
 {
-    let mut edges = Vec::new(alloc);
-    let mut low = 0u16;
-    while let Some(byte) = next_byte(strings, low) {
-        let next = first + groups.len();
-        groups.push(tails(alloc, strings, byte)?)?;
-        edges.push(edge_by(byte, next))?;
-        low = u16::from(byte) + 1;
-    }
+    let mut bytes = Vec::new(alloc);
+    let mut fresh = Vec::new(alloc);
+    add_strings(alloc, &mut bytes, &mut fresh, strings)?;
+    let before = groups.len();
+    groups.append(&mut fresh)?;
+    let _all = groups.len();
+    let edges = edges_by(alloc, &bytes, first + before)?;
     Ok(edges)
 }

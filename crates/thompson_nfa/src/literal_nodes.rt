@@ -65,6 +65,24 @@ pub(crate) struct Node<'a> {
     pub(crate) items: Vec<Vec<Edge>>,
 }
 
+/// The node that has the strings, which have no stem. The groups to which edges lead are added; `first` groups come before these.
+fn lay_without_stem<'a>(
+    alloc: Global,
+    strings: &[&'a [u8]],
+    stem: &'a [u8],
+    first: usize,
+    groups: &mut Vec<Vec<&'a [u8]>>,
+) -> Result<Node<'a>, AllocError>
+    requires few { first ≤ 9223372036854775807 }
+    requires some { 1 ≤ length strings.now }
+    requires none { length stem.now ≡ 0 }
+    ensures { IfOk result (λ n. LaysNode first (strings_of_groups (λ g. g.items) groups.old.items)
+        (strings_of_groups (λ g. g.items) groups.new.items) (node_value n) (texts strings.now)) }
+{
+    let items = items(alloc, strings, first, groups)?;
+    Ok(Node { stem, items })
+}
+
 /// The node that has the strings. The groups to which edges lead are added; `first` groups come before these.
 fn lay<'a>(
     alloc: Global,
@@ -78,6 +96,10 @@ fn lay<'a>(
         (strings_of_groups (λ g. g.items) groups.new.items) (node_value n) (texts strings.now)) }
 {
     let stem = stem(strings);
+    if stem.is_empty() {
+        let node = lay_without_stem(alloc, strings, stem, first, groups)?;
+        return Ok(node);
+    }
     let rest = behind_stem(alloc, strings, stem)?;
     let items = items(alloc, &rest, first, groups)?;
     Ok(Node { stem, items })

@@ -55,7 +55,7 @@ pub(crate) fn behind_stem<'a>(
     requires { BeginAll stem.now (texts strings.now) }
     ensures { IfOk result (λ v. texts v.items ≡ without_first (length stem.now) (texts strings.now)) }
 {
-    let mut all = Vec::new(alloc);
+    let mut all = Vec::with_capacity(alloc, strings.len())?;
     for string in strings {
         all.push(&string[stem.len()..])?;
     }

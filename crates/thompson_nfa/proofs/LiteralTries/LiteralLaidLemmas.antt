@@ -2,7 +2,7 @@
 use Rattle.std.proofs.Common.{◌≡◌, ℕ, zero, suc, ◌+◌, ◌-◌, ◌<◌, ◌≤◌, List, [], ◌∷◌, ◌++◌, length, drop, get_or, nat_eq, refl, sym, ap}
 use Rattle.std.proofs.Common.{◌∙◌, subst, arith, length-append, ⊎_elim}
 use Rattle.std.proofs.lemmas.Bool.{cases_lt}
-use Rattle.std.proofs.lemmas.List.{drop-append-le}
+use Rattle.std.proofs.lemmas.List.{drop-append-le, nil_from_length}
 use Rattle.std.proofs.Math.Seq.{drop-nil}
 use denote.Ref.{Bor}
 use Rattle.nfa_core.specs.Walks.{distinct}
@@ -281,6 +281,13 @@ module _ (stem : List ℕ) (strings rest row : List (Bor (List ℕ))) (begins : 
 
   pub rest_long : length row ≡ length strings
   rest_long = omega (arith, texts_long row, texts_long strings, behind_long stem (texts row), ap length stem_split)
+
+empty_prefix : (ws : List (List ℕ)) → after_prefix [] ws ≡ ws
+empty_prefix [] = refl
+empty_prefix (w ∷ ws) = ap (λ (r : List (List ℕ)). w ∷ r) (empty_prefix ws)
+
+pub no_stem : (stem : List ℕ) (ws : List (List ℕ)) → length stem ≡ 0 → after_prefix stem ws ≡ ws
+no_stem stem ws none = ap (λ (t : List ℕ). after_prefix t ws) (nil_from_length stem none) ∙ empty_prefix ws
 
 -- a group was taken, its node was laid after the other nodes, and groups were added
 abbrev pub LaidNext : List NodeValue → List (List (List ℕ)) → List NodeValue → List (List (List ℕ)) → ℕ → Type 0
