@@ -9,6 +9,7 @@ mod copies;
 mod errors;
 mod groups;
 mod list;
+mod next;
 mod pattern_groups;
 mod replacement;
 mod replacing;
