@@ -8,6 +8,7 @@ mod captures;
 mod copies;
 mod errors;
 mod groups;
+pub mod laws;
 mod list;
 mod next;
 mod pattern_groups;
