@@ -466,6 +466,16 @@ pub extern "C" fn hanneddois_captures_all(
     }
 }
 
+/// Whether there is a row, and there are as many slots as rows of this width have.
+fn has_rows(rows: usize, slots: usize, width: usize) -> bool
+    ensures { result ≡ has_rows rows slots width }
+{
+    if rows == 0 {
+        return false;
+    }
+    fills(slots, rows, width)
+}
+
 /// The next matches from an offset on, as many as there are rows, with the offsets of their groups, of each as many slots as a row is wide.
 /// `from` is then the offset from which the next call goes on. The status is 0 if there is any match, and 1 if there is none. The errors are
 /// those of [`hanneddois_captures`], and 2 also if there are no rows, or the slots don't fill them.
@@ -494,7 +504,7 @@ pub extern "C" fn hanneddois_captures_next(
         (λ v. FailsCaptures v haystack.now error.new) }
 {
     *count = 0;
-    if matches.is_empty() || !fills(slots.len(), matches.len(), width) {
+    if !has_rows(matches.len(), slots.len(), width) {
         return end(BAD_ARGUMENT, error);
     }
     let Some(mut inside) = regex.take(alloc) else {
