@@ -1,5 +1,5 @@
 -- Matches from an offset on, one after the other.
-use Rattle.std.proofs.Common.{◌≡◌, ℕ, zero, suc, ◌+◌, ◌<◌, ◌≤◌, ◌^◌, Bool, List, [], ◌∷◌, ◌++◌, All, length, map, slice_set, take, replicate, Option, Some, None, IfSome, option_map, inl, inr, refl, sym, ap, ap₂, ◌∙◌, subst, arith, append-nil, length-append}
+use Rattle.std.proofs.Common.{◌≡◌, ℕ, zero, suc, ◌+◌, ◌<◌, ◌≤◌, Bool, List, [], ◌∷◌, ◌++◌, All, length, map, slice_set, take, replicate, Option, Some, None, IfSome, option_map, inl, inr, refl, sym, ap, ap₂, ◌∙◌, subst, arith, append-nil, length-append}
 use Rattle.std.proofs.lemmas.List.{length-map}
 use Rattle.std.proofs.lemmas.List.Elements.{All-nil, All-cons, All-append}
 use Rattle.std.proofs.lemmas.Option.{none-some}
@@ -131,9 +131,9 @@ module _ (config : Config) (texts : List (List ℕ)) (h : List ℕ) (from : ℕ)
           ∙ one_more s count from (s from) (next_is res read).0 refl (ap s (sym (it.goes_on res read)) ∙ (next_is res read).1) (full res read)
 
       pub next_goes_on : (now : List FoundMatch) (next : ℕ) → now ≡ slice_set rows count f → HasPattern config texts h o →
-          length h < 2 ^ 63 → (f.end < 2 ^ 63 → next ≡ after_span f.start f.end) →
+          (f.end ≤ length h → next ≡ after_span f.start f.end) →
           IsNextSoFar config texts h from (count + 1) next old now
-      next_goes_on now next put named bound after = record {
+      next_goes_on now next put named after = record {
         taken = it.taken ++ f ∷ [];
         counted = ap (λ (k : ℕ). k + 1) it.counted ∙ sym (length-append it.taken (f ∷ []));
         laid = put ∙ ap₂ (λ (rs : List FoundMatch) (k : ℕ). slice_set rs k f) it.laid it.counted ∙ sym (one_laid it.taken old f);
@@ -150,24 +150,25 @@ module _ (config : Config) (texts : List (List ℕ)) (h : List ℕ) (from : ℕ)
             let w = next_is res read in
             let there = found_there config.utf8 (alt_all res) h at w.0 w.1 in
             let ends : w.0.trace.end ≡ f.end = ap (λ (p : ℕ × ℕ). p.1) w.2 in
-            after (omega (arith, bound, ends, ends_inside h res w.0 there.0 there.1))
+            after (omega (arith, ends, ends_inside h res w.0 there.0 there.1))
             ∙ ap (λ (p : ℕ × ℕ). after_span p.0 p.1) (sym w.2)
             ∙ sym (ap (after_all from) (more_is res read) ∙ after_last from (next_matches config res h from count) w.0);
       }
 
       -- what is written for it
       pub filling_goes_on : (width : ℕ) (before slots now : List ℕ) (filled more : ℕ) →
-          AreNextFilled config texts h from width count before slots filled →
-          ((res : List Re) → AreReadAs config texts res → (m : Match) → span_of_match m ≡ span_of_row f → m.start ≤ length h →
+          AreNextFilled config texts h from width count before slots filled → HasPattern config texts h o →
+          ((res : List Re) → AreReadAs config texts res → IsOfFirstPattern res h (as_found f) → (m : Match) →
+          span_of_match m ≡ span_of_row f → m.start ≤ length h →
           attempt h (alt_all res) accept m.start ≡ Some m.trace → (done first : List ℕ) → AreFilled done first slots filled →
           AreFilled (done ++ slots_of m width) first now more) →
           AreNextFilled config texts h from width (count + 1) before now more
-      filling_goes_on width before slots now filled more filling writes res read =
+      filling_goes_on width before slots now filled more filling named writes res read =
           let w = next_is res read in
           let there = found_there config.utf8 (alt_all res) h at w.0 w.1 in
           subst (λ (xs : List ℕ). AreFilled xs before now more)
           (sym (ap (rows_of width) (more_is res read) ∙ rows_more width (next_matches config res h from count) w.0))
-          (writes res read w.0 w.2 there.0 there.1 (rows_of width (next_matches config res h from count)) before (filling res read))
+          (writes res read (subst (λ (p : Option FoundMatch). IfSome p (λ r. IsOfFirstPattern res h (as_found r))) some (named res read)) w.0 w.2 there.0 there.1 (rows_of width (next_matches config res h from count)) before (filling res read))
 
 -- the slots of the next match can't be found
 pub filling_stops : (config : Config) (texts : List (List ℕ)) (h : List ℕ) (from width count : ℕ) (old slots now : List ℕ) (filled : ℕ) →

@@ -1,5 +1,5 @@
 -- Lists of matches in pieces, and the list of all matches.
-use Rattle.std.proofs.Common.{◌≡◌, ℕ, zero, suc, ◌+◌, ◌-◌, ◌<◌, ◌≤◌, ◌==◌, ◌&&◌, nat_eq, Bool, true, false, List, [], ◌∷◌, ◌++◌, length, Option, Some, None, if◌then◌else◌, inl, inr, refl, sym, ap, ap₂, ◌∙◌, subst, arith, eq-eqb}
+use Rattle.std.proofs.Common.{◌≡◌, ℕ, zero, suc, ◌+◌, ◌-◌, ◌<◌, ◌≤◌, ◌==◌, ◌&&◌, ◌⊎◌, ◌≢◌, Bool, true, false, List, [], ◌∷◌, ◌++◌, length, Option, Some, None, if◌then◌else◌, inl, inr, refl, sym, ap, ap₂, ◌∙◌, subst, arith, eq-eqb, eqb-true, false-eqb}
 use Rattle.std.proofs.lemmas.Option.{none-some, same_Some}
 use Rattle.regex_hir.specs.Re.{Re, accept, attempt}
 use Rattle.regex_hir.specs.Meaning.{alt_all}
@@ -19,20 +19,21 @@ nothing s zero o none = refl
 nothing s (suc n) None none = refl
 nothing s (suc n) (Some m) none = absurd (none-some m (sym none))
 
-in_pieces : (s : ℕ → Option Match) (m n at : ℕ) (o : Option Match) → o ≡ s at →
-    matches_after s (m + n) o ≡ matches_after s m o ++ matches_after s n (s (after_all at (matches_after s m o)))
+in_pieces : (s : ℕ → Option Match) (m n k at : ℕ) (o : Option Match) → k ≡ m + n → o ≡ s at →
+    matches_after s k o ≡ matches_after s m o ++ matches_after s n (s (after_all at (matches_after s m o)))
 unfolding matches_after after_all
-in_pieces s zero n at o same = ap (matches_after s n) same
-in_pieces s (suc m) n at None same = sym (nothing s n (s at) (sym same))
-in_pieces s (suc m) n at (Some w) same =
-    ap (λ (ms : List Match). w ∷ ms) (in_pieces s m n (after_match w) (s (after_match w)) refl)
+in_pieces s zero n k at o all same = let rest : k ≡ n = omega (arith, all) in ap₂ (matches_after s) rest same
+in_pieces s (suc m) n k at None all same = nothing s k None refl ∙ sym (nothing s n (s at) (sym same))
+in_pieces s (suc m) n zero at (Some w) all same = absurd (omega (arith, all))
+in_pieces s (suc m) n (suc k) at (Some w) all same =
+    ap (λ (ms : List Match). w ∷ ms) (in_pieces s m n k (after_match w) (s (after_match w)) (omega (arith, all)) refl)
 
 -- As many matches as m and n are those of a piece with room for m, and of one with room for n that goes on from there.
 pub pieces_are_the_list : (config : Config) (res : List Re) (h : List ℕ) (at m n : ℕ) →
     next_matches config res h at (m + n)
     ≡ next_matches config res h at m ++ next_matches config res h (after_all at (next_matches config res h at m)) n
 pieces_are_the_list config res h at m n =
-    let s = found_from config.utf8 (alt_all res) h in in_pieces s m n at (s at) refl
+    let s = found_from config.utf8 (alt_all res) h in in_pieces s m n (m + n) at (s at) refl refl
 
 -- ---- without each empty match right at the end of the one before it
 none_from : (s : ℕ → Option Match) (n : ℕ) (o : Option Match) → o ≡ None → matches_from s n o ≡ []
@@ -83,7 +84,7 @@ module _ (utf8 : Bool) (a : Re) (h : List ℕ) where
       inr (
         ap (λ (b : Bool). if b then w.trace.end + 1 else w.trace.end) same,
         w,
-        subst (λ (i : ℕ). s i ≡ Some w) (omega (arith, same)) (stays at w found),
+        subst (λ (i : ℕ). s i ≡ Some w) (eqb-true w.start w.trace.end same) (stays at w found),
         refl,
       )
   follows at w found false other = inl (ap (λ (b : Bool). if b then w.trace.end + 1 else w.trace.end) other)
@@ -94,10 +95,13 @@ module _ (utf8 : Bool) (a : Re) (h : List ℕ) where
       above : (b : Bool) → (w.start == w.trace.end) ≡ b → at < after_match w
       above true same =
           let is : after_match w ≡ w.trace.end + 1 = ap (λ (b : Bool). if b then w.trace.end + 1 else w.trace.end) same in
-          omega (arith, is, lies at w found)
+          let lie = lies at w found in
+          omega (arith, is, lie.0, lie.1)
       above false other =
           let is : after_match w ≡ w.trace.end = ap (λ (b : Bool). if b then w.trace.end + 1 else w.trace.end) other in
-          omega (arith, is, other, lies at w found)
+          let apart : w.start ≢ w.trace.end = false-eqb w.start w.trace.end (sym other) in
+          let lie = lies at w found in
+          omega (arith, is, apart, lie.0, lie.1)
 
   -- what comes after a match with this end, if an empty one is right there
   skips : (end : ℕ) (m : Match) → s end ≡ Some m → m.trace.end ≡ end → find_after s end ≡ s (end + 1)
@@ -128,7 +132,8 @@ module _ (utf8 : Bool) (a : Re) (h : List ℕ) where
   listed_if : (end at : ℕ) → Follows end at → (w : Match) → s at ≡ Some w → (w.trace.end == end) ≡ false → IsListed end at w
   listed_if end at (inl there) w found other =
       let lie = lies at w found in
-      let later : end < w.trace.end = omega (arith, there, lie, other) in
+      let apart : w.trace.end ≢ end = false-eqb w.trace.end end (sym other) in
+      let later : end < w.trace.end = omega (arith, there, lie.0, lie.1, apart) in
       record {
         next = keeps end w (ap s (sym there) ∙ found) other;
         later = later;
@@ -141,7 +146,7 @@ module _ (utf8 : Bool) (a : Re) (h : List ℕ) where
   listed_if end at (inr (past, m, there, ends)) w found other =
       let lie = lies at w found in record {
         next = skips end m there ends ∙ ap s (sym past) ∙ found;
-        later = omega (arith, past, lie);
+        later = omega (arith, past, lie.0, lie.1);
         apart = ap (λ (b : Bool). (w.start == end) && b) other ∙ and_false (w.start == end);
       }
     where
@@ -171,53 +176,61 @@ module _ (utf8 : Bool) (a : Re) (h : List ℕ) where
   unfolding matches_after
   none_after o = refl
 
-  same_lists : (k n end at : ℕ) → Follows end at → length h + 1 ≤ k + at → length h ≤ n + end →
+  -- lists that go on after a match with this end, with room for k matches
+  abbrev SameLists : ℕ → Type 0
+  SameLists k = (n end at : ℕ) → Follows end at → length h + 1 ≤ k + at → length h ≤ n + end →
       without_adjacent (Some end) (matches_after s k (s at)) ≡ matches_from s n (find_after s end)
+
+  module _ (k : ℕ) (others : SameLists k) (n end at : ℕ) (enough : length h + 1 ≤ suc k + at) (many : length h ≤ n + end) (w : Match)
+      (found : s at ≡ Some w) where
+    same_dropped : Follows end at → w.trace.end ≡ end →
+        without_adjacent (Some end) (w ∷ matches_after s k (s (after_match w))) ≡ matches_from s n (find_after s end)
+    same_dropped (inl there) ends =
+        let lie = lies at w found in
+        let starts : w.start ≡ end = omega (arith, there, lie.0, lie.1, ends) in
+        let empty : (w.start == w.trace.end) ≡ true = eq-eqb w.start w.trace.end (starts ∙ sym ends) in
+        let after : after_match w ≡ w.trace.end + 1 = ap (λ (b : Bool). if b then w.trace.end + 1 else w.trace.end) empty in
+        dropped w (matches_after s k (s (after_match w))) end (ap₂ ◌&&◌ (eq-eqb w.start end starts) (eq-eqb w.trace.end end ends))
+        ∙ others n w.trace.end (after_match w)
+        (inr (after, w, subst (λ (i : ℕ). s i ≡ Some w) (there ∙ sym ends) found, refl))
+        (omega (arith, enough, there, after, ends)) (omega (arith, many, ends))
+        ∙ ap (λ (e : ℕ). matches_from s n (find_after s e)) ends
+    same_dropped (inr past) ends = let lie = lies at w found in absurd (omega (arith, ends, past.0, lie.0, lie.1))
+
+    same_kept : Follows end at → (w.trace.end == end) ≡ false →
+        without_adjacent (Some end) (w ∷ matches_after s k (s (after_match w))) ≡ matches_from s n (find_after s end)
+    same_kept goes_on other =
+        let it = listed_if end at goes_on w found other in
+        let lie = lies at w found in
+        let above = after_above at w found in
+        kept (Some end) w (matches_after s k (s (after_match w))) end refl it.apart
+        ∙ ap (λ (ms : List Match). w ∷ ms)
+        (others (n - 1) w.trace.end (after_match w) (follows at w found (w.start == w.trace.end) refl)
+        (omega (arith, enough, above)) (omega (arith, many, it.later)))
+        ∙ sym (one_from s n (n - 1) w (omega (arith, many, it.later, lie.2)))
+        ∙ sym (ap (matches_from s n) it.next)
+
+    same_by : Follows end at → (b : Bool) → (w.trace.end == end) ≡ b →
+        without_adjacent (Some end) (w ∷ matches_after s k (s (after_match w))) ≡ matches_from s n (find_after s end)
+    same_by goes_on true same = same_dropped goes_on (eqb-true w.trace.end end same)
+    same_by goes_on false other = same_kept goes_on other
+
+  same_next : (k : ℕ) → SameLists k → (n end at : ℕ) → Follows end at → length h + 1 ≤ suc k + at → length h ≤ n + end →
+      (o : Option Match) → s at ≡ o → without_adjacent (Some end) (matches_after s (suc k) (s at)) ≡ matches_from s n (find_after s end)
+  same_next k others n end at goes_on enough many None none =
+      none_without (Some end) (matches_after s (suc k) (s at)) (nothing s (suc k) (s at) none)
+      ∙ sym (none_from s n (find_after s end) (none_follows end at goes_on none))
+  same_next k others n end at goes_on enough many (Some w) found =
+      ap (λ (o : Option Match). without_adjacent (Some end) (matches_after s (suc k) o)) found
+      ∙ ap (without_adjacent (Some end)) (one_after k w)
+      ∙ same_by k others n end at enough many w found goes_on (w.trace.end == end) refl
+
+  same_lists : (k : ℕ) → SameLists k
   same_lists zero n end at goes_on enough many =
       let none : s at ≡ None = beyond at (omega (arith, enough)) in
       none_without (Some end) (matches_after s 0 (s at)) (none_after (s at))
       ∙ sym (none_from s n (find_after s end) (none_follows end at goes_on none))
-  same_lists (suc k) n end at goes_on enough many = by_next (s at) refl
-    where
-      by_end : (w : Match) → s at ≡ Some w → (b : Bool) → (w.trace.end == end) ≡ b →
-          without_adjacent (Some end) (w ∷ matches_after s k (s (after_match w))) ≡ matches_from s n (find_after s end)
-      by_end w found true same = by_place goes_on
-        where
-          by_place : Follows end at →
-              without_adjacent (Some end) (w ∷ matches_after s k (s (after_match w))) ≡ matches_from s n (find_after s end)
-          by_place (inl there) =
-              let lie = lies at w found in
-              let ends : w.trace.end ≡ end = omega (arith, same) in
-              let starts : w.start ≡ end = omega (arith, there, lie, ends) in
-              let empty : (w.start == w.trace.end) ≡ true = eq-eqb w.start w.trace.end (starts ∙ sym ends) in
-              let after : after_match w ≡ w.trace.end + 1 = ap (λ (b : Bool). if b then w.trace.end + 1 else w.trace.end) empty in
-              dropped w (matches_after s k (s (after_match w))) end (ap₂ ◌&&◌ (eq-eqb w.start end starts) (eq-eqb w.trace.end end ends))
-              ∙ same_lists k n w.trace.end (after_match w)
-              (inr (after, w, subst (λ (i : ℕ). s i ≡ Some w) (there ∙ sym ends) found, refl))
-              (omega (arith, enough, there, after, ends)) (omega (arith, many, ends))
-              ∙ ap (λ (e : ℕ). matches_from s n (find_after s e)) ends
-          by_place (inr past) =
-              let lie = lies at w found in
-              absurd (omega (arith, same, past.0, lie))
-      by_end w found false other =
-          let it = listed_if end at goes_on w found other in
-          let lie = lies at w found in
-          let above = after_above at w found in
-          kept (Some end) w (matches_after s k (s (after_match w))) end refl it.apart
-          ∙ ap (λ (ms : List Match). w ∷ ms)
-          (same_lists k (n - 1) w.trace.end (after_match w) (follows at w found (w.start == w.trace.end) refl)
-          (omega (arith, enough, above)) (omega (arith, many, it.later)))
-          ∙ sym (one_from s n (n - 1) w (omega (arith, many, it.later, lie)))
-          ∙ sym (ap (matches_from s n) it.next)
-      by_next : (o : Option Match) → s at ≡ o →
-          without_adjacent (Some end) (matches_after s (suc k) (s at)) ≡ matches_from s n (find_after s end)
-      by_next None none =
-          none_without (Some end) (matches_after s (suc k) (s at)) (nothing s (suc k) (s at) none)
-          ∙ sym (none_from s n (find_after s end) (none_follows end at goes_on none))
-      by_next (Some w) found =
-          ap (λ (o : Option Match). without_adjacent (Some end) (matches_after s (suc k) o)) found
-          ∙ ap (without_adjacent (Some end)) (one_after k w)
-          ∙ by_end w found (w.trace.end == end) refl
+  same_lists (suc k) n end at goes_on enough many = same_next k (same_lists k) n end at goes_on enough many (s at) refl
 
   first_kept : (w : Match) (ms : List Match) → without_adjacent None (w ∷ ms) ≡ w ∷ without_adjacent (Some w.trace.end) ms
   unfolding without_adjacent

@@ -105,12 +105,6 @@ all_laid P (x ∷ xs) [] each = All-nil P
 all_laid P (x ∷ xs) (y ∷ ys) each =
     All-cons P x (take (length xs) (overlaid xs ys)) (All-head P x xs each) (all_laid P xs ys (All-tail P x xs each))
 
-length_laid : (xs ys : List ℕ) → length (overlaid xs ys) ≡ length ys
-unfolding overlaid
-length_laid [] ys = refl
-length_laid (x ∷ xs) [] = refl
-length_laid (x ∷ xs) (y ∷ ys) = ap suc (length_laid xs ys)
-
 pub same_length : (done old now : List ℕ) (filled : ℕ) → AreFilled done old now filled → length now ≡ length old
 same_length done old now filled it = ap length it.laid ∙ length_laid done old
 

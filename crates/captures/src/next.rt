@@ -1,5 +1,5 @@
 //! Matches from an offset on, with their groups.
-ghost use Rattle.std.specs.Prelude.{◌≡◌, ◌<◌, ◌^◌, IfErr, IfOk, length, true};
+ghost use Rattle.std.specs.Prelude.{◌≡◌, ◌<◌, ◌≤◌, ◌^◌, IfErr, IfOk, length, true};
 ghost use Rattle.search_core.specs.Utf8.{IsValidText};
 ghost use Rattle.meta_regex.specs.Caches.{IsCacheOf};
 ghost use Rattle.meta_regex.specs.Regexes.{HasFoundSpan, HasPattern, config_by};
@@ -11,10 +11,11 @@ use crate::groups::Groups;
 use meta_regex::{Cache, FoundMatch, Regex};
 use std::alloc::Global;
 
-/// Where the search after a match begins: at its end, or one byte after that if the match is empty.
+/// Where the search after a match begins in a haystack of this length: at its end, or one byte after that if the match is empty.
 #[inline(always)]
-fn after(found: FoundMatch) -> usize
-    ensures { found.end < 2 ^ 63 → result ≡ after_span found.start found.end }
+fn after(found: FoundMatch, len: usize) -> usize
+    requires { len < 2 ^ 63 }
+    ensures { found.end ≤ len → result ≡ after_span found.start found.end }
 {
     if found.start == found.end {
         found.end.saturating_add(1)
@@ -94,7 +95,7 @@ impl Groups {
                 Err(error) => return (count, Err(error)),
             };
             rows[count] = found;
-            *from = after(found);
+            *from = after(found, haystack.len());
         }
         (rows.len(), Ok(()))
     }
