@@ -83,9 +83,7 @@ module _ (utf8 : Bool) (a : Re) (h : List ℕ) where
   follows at w found true same =
       inr (
         ap (λ (b : Bool). if b then w.trace.end + 1 else w.trace.end) same,
-        w,
-        subst (λ (i : ℕ). s i ≡ Some w) (eqb-true w.start w.trace.end same) (stays at w found),
-        refl,
+        (w, subst (λ (i : ℕ). s i ≡ Some w) (eqb-true w.start w.trace.end same) (stays at w found), refl),
       )
   follows at w found false other = inl (ap (λ (b : Bool). if b then w.trace.end + 1 else w.trace.end) other)
 
@@ -121,7 +119,7 @@ module _ (utf8 : Bool) (a : Re) (h : List ℕ) where
 
   none_follows : (end at : ℕ) → Follows end at → s at ≡ None → find_after s end ≡ None
   none_follows end at (inl there) none = keeps_none end (ap s (sym there) ∙ none)
-  none_follows end at (inr (past, m, found, ends)) none = skips end m found ends ∙ ap s (sym past) ∙ none
+  none_follows end at (inr (past, (m, found, ends))) none = skips end m found ends ∙ ap s (sym past) ∙ none
 
   -- the match that is listed next
   record IsListed (end at : ℕ) (w : Match) : Type 0 where
@@ -143,7 +141,7 @@ module _ (utf8 : Bool) (a : Re) (h : List ℕ) where
       and_false : (b : Bool) → (b && false) ≡ false
       and_false true = refl
       and_false false = refl
-  listed_if end at (inr (past, m, there, ends)) w found other =
+  listed_if end at (inr (past, (m, there, ends))) w found other =
       let lie = lies at w found in record {
         next = skips end m there ends ∙ ap s (sym past) ∙ found;
         later = omega (arith, past, lie.0, lie.1);
@@ -192,7 +190,7 @@ module _ (utf8 : Bool) (a : Re) (h : List ℕ) where
         let after : after_match w ≡ w.trace.end + 1 = ap (λ (b : Bool). if b then w.trace.end + 1 else w.trace.end) empty in
         dropped w (matches_after s k (s (after_match w))) end (ap₂ ◌&&◌ (eq-eqb w.start end starts) (eq-eqb w.trace.end end ends))
         ∙ others n w.trace.end (after_match w)
-        (inr (after, w, subst (λ (i : ℕ). s i ≡ Some w) (there ∙ sym ends) found, refl))
+        (inr (after, (w, subst (λ (i : ℕ). s i ≡ Some w) (there ∙ sym ends) found, refl)))
         (omega (arith, enough, there, after, ends)) (omega (arith, many, ends))
         ∙ ap (λ (e : ℕ). matches_from s n (find_after s e)) ends
     same_dropped (inr past) ends = let lie = lies at w found in absurd (omega (arith, ends, past.0, lie.0, lie.1))
