@@ -1214,70 +1214,11 @@ static void match_dealloc(PyObject *self)
     keep_free_match(match);
 }
 
-/* Parts of a few bytes that were made before, by their bytes and how many these are: equal parts are often one object. Texts repeat their
-   words, so most short parts needn't be made. */
-typedef struct {
-    uint64_t key;
-    PyObject *part;
-} KeptPart;
-
-/* A key holds so many bytes, and their number. It is never 0. */
-#define SHORT_PART 7
-#define KEPT_BITS 9
-static KeptPart kept_strs[1 << KEPT_BITS], kept_bytes[1 << KEPT_BITS];
-
-/* The key of 1 to SHORT_PART bytes before an address, which at least 8 bytes precede. */
-static inline uint64_t key_of(const char *end, size_t length)
-{
-    return word_at((const uint8_t *)end - 8) >> 8 * (8 - length) | (uint64_t)length << 56;
-}
-
-static inline KeptPart *kept_at(KeptPart *kept, uint64_t key)
-{
-    return &kept[key * 0x9E3779B97F4A7C15u >> (64 - KEPT_BITS)];
-}
-
-static __attribute__((noinline)) PyObject *keep_part(KeptPart *kept, uint64_t key, PyObject *made)
-{
-    PyObject *old = kept->part;
-    if (!made)
-        return NULL;
-    kept->key = key;
-    kept->part = new_reference(made);
-    Py_XDECREF(old);
-    return made;
-}
-
-static inline PyObject *short_str(const char *end, size_t length)
-{
-    uint64_t key = key_of(end, length);
-    KeptPart *kept = kept_at(kept_strs, key);
-    if (kept->key == key)
-        return new_reference(kept->part);
-    PyObject *made = PyUnicode_FromStringAndSize(end - length, (Py_ssize_t)length);
-    return key & 0x80808080808080u ? made : keep_part(kept, key, made);
-}
-
-static inline PyObject *short_bytes(const char *end, size_t length)
-{
-    uint64_t key = key_of(end, length);
-    KeptPart *kept = kept_at(kept_bytes, key);
-    return kept->key == key ? new_reference(kept->part) : keep_part(kept, key, PyBytes_FromStringAndSize(end - length, (Py_ssize_t)length));
-}
-
-/* Whether a part of so many bytes that ends at this offset is or may be kept. */
-static inline int is_short_part(size_t length, size_t end)
-{
-    return length - 1 < SHORT_PART && end >= 8;
-}
-
 /* The part of a haystack between two offsets in bytes. */
 static inline PyObject *part_of_bytes(const Haystack *haystack, size_t start, size_t end)
 {
     const char *bytes = (const char *)haystack->bytes + start;
     Py_ssize_t length = (Py_ssize_t)(end - start);
-    if (is_short_part(end - start, end))
-        return haystack->is_str ? short_str(bytes + length, end - start) : short_bytes(bytes + length, end - start);
     if (!haystack->is_str)
         return PyBytes_FromStringAndSize(bytes, length);
     /* Cutting an ASCII str costs less than decoding, and decoding less than cutting another one. */
@@ -1304,14 +1245,11 @@ static __attribute__((noinline)) PyObject *part_of_other(PyObject *object, Py_ss
 static inline PyObject *part_of(const Match *match, Py_ssize_t start, Py_ssize_t end)
 {
     PyObject *haystack = match->haystack;
-    const char *last = match->origin + end;
-    size_t length = (size_t)(end - start);
-    if (!match->origin)
-        return PyUnicode_CheckExact(haystack) ? PyUnicode_Substring(haystack, start, end) : part_of_other(haystack, start, end);
-    if (is_short_part(length, (size_t)(match->place.start - match->start + end)))
-        return PyBytes_CheckExact(haystack) ? short_bytes(last, length) : short_str(last, length);
-    return PyBytes_CheckExact(haystack) ? PyBytes_FromStringAndSize(last - length, (Py_ssize_t)length)
-                                        : PyUnicode_FromStringAndSize(last - length, (Py_ssize_t)length);
+    if (PyBytes_CheckExact(haystack))
+        return PyBytes_FromStringAndSize(match->origin + start, end - start);
+    if (match->origin)
+        return PyUnicode_FromStringAndSize(match->origin + start, end - start);
+    return PyUnicode_CheckExact(haystack) ? PyUnicode_Substring(haystack, start, end) : part_of_other(haystack, start, end);
 }
 
 /* Counts the characters before the offsets of all groups but the whole match. Groups are inside of their match. */
