@@ -515,7 +515,7 @@ pub extern "C" fn hanneddois_captures_next(
     *count = some;
     match reported {
         Ok(()) => end(if some == 0 { NONE } else { OK }, error),
-        Err(why) => refuse(Failure::of_captures(&why), error),
+        Err(failed) => refuse(Failure::of_captures(&failed), error),
     }
 }
 
