@@ -56,11 +56,16 @@ def matches(rx, text, start=0, strips=False, reverse=False):
         yield s, e
         last = at = e
 
+def in_order(patterns, how):
+    """The patterns in the order in which they are preferred: if all are strings, the longest first."""
+    if 'F' not in how and any(re.search(rb'[\\.^$|*+?()\[{]', p) for p in patterns): return patterns
+    return sorted(patterns, key=lambda p: len(p.decode(errors='surrogateescape')), reverse=True)
+
 def expression(patterns, how, rg):
     """The patterns as one, in Python's syntax. With --crlf the definition has the meaning of (?R): a carriage return ends a line too. In
     ripgrep `$` is `\\r??$`, and the carriage return is cut off a match."""
     out = []
-    for p in patterns:
+    for p in patterns if rg else in_order(patterns, how):
         if 'F' in how: p = re.escape(p)
         if 'x' in how: p = b'^(?:' + p + b')$'
         if 'crlf' in how: p = with_returns(p, rg)
