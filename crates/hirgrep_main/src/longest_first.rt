@@ -1,7 +1,7 @@
 //! The order in which several strings are searched for.
 ghost use Rattle.std.specs.Prelude.{◌≡◌, false, map};
 ghost use Rattle.std.specs.List.Sorted.{IsPermutation};
-ghost use Rattle.hirgrep_main.specs.Strings.{are_strings, is_operator, is_string};
+ghost use Rattle.hirgrep_main.specs.Strings.{are_strings, is_special, is_string};
 
 use std::alloc::AllocError;
 
@@ -9,8 +9,8 @@ use std::alloc::AllocError;
 const OPERATORS: &[u8] = b"\\.^$|*+?()[{";
 
 /// Whether the byte is an operator of patterns, or begins one.
-fn is_operator(byte: u8) -> bool
-    ensures { result ≡ is_operator byte }
+fn is_special(byte: u8) -> bool
+    ensures { result ≡ is_special byte }
 {
     OPERATORS.contains(&byte)
 }
@@ -19,7 +19,7 @@ fn is_operator(byte: u8) -> bool
 fn is_string(pattern: &str) -> bool
     ensures { result ≡ is_string pattern.now }
 {
-    !pattern.as_bytes().iter().any(|byte| is_operator(*byte))
+    !pattern.as_bytes().iter().any(|byte| is_special(*byte))
 }
 
 /// Whether all patterns stand for themselves alone.
