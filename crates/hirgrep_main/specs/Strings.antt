@@ -6,9 +6,9 @@ use Rattle.std.specs.List.{list_any}
 abbrev pub is_special : ℕ → Bool
 is_special b = list_any (λ c. c == b) (codes "\\.^$|*+?()[{")
 
-abbrev pub is_string : List ℕ → Bool
-is_string pattern = not (list_any is_special pattern)
+abbrev pub has_operator : List ℕ → Bool
+has_operator pattern = list_any is_special pattern
 
--- All patterns are strings.
+-- All patterns are strings: none has an operator.
 abbrev pub are_strings : List (List ℕ) → Bool
-are_strings patterns = not (list_any (λ p. not (is_string p)) patterns)
+are_strings patterns = not (list_any has_operator patterns)

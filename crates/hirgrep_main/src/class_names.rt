@@ -1,4 +1,5 @@
 //! Names of classes, as `[:alpha:]`, where a pattern has no class of this name.
+ghost use Rattle.std.specs.Prelude.{◌≤◌, ◌<◌, ◌-◌, length};
 
 /// The names of classes.
 const NAMES: [&str; 14] = [
@@ -16,16 +17,21 @@ pub enum Misnamed {
 }
 
 /// How many small letters the text begins with.
-fn letters_len(text: &[u8]) -> usize {
-    let mut len = 0usize;
-    while len < text.len() && text[len].is_ascii_lowercase() {
-        len += 1;
+fn letters_len(text: &[u8]) -> usize
+    ensures { result ≤ length text.now }
+{
+    for at in 0..text.len() {
+        if !text[at].is_ascii_lowercase() {
+            return at;
+        }
     }
-    len
+    text.len()
 }
 
 /// The length of the name that the text begins with, between two colons and before a bracket. It is 0 if there is none.
-fn name_len(text: &[u8]) -> usize {
+fn name_len(text: &[u8]) -> usize
+    ensures { result ≤ length text.now - 1 }
+{
     let Some((colon, rest)) = text.split_first() else {
         return 0;
     };
@@ -69,7 +75,9 @@ enum Part {
 }
 
 /// Reads a bracket outside of classes. The name of one that begins there, or after a caret, is meant to be in brackets.
-fn read_outer(text: &[u8]) -> Part {
+fn read_outer(text: &[u8]) -> Part
+    requires { 0 < length text.now }
+{
     let caret = usize::from(text.len() > 1 && text[1] == b'^');
     if name_len(&text[1 + caret..]) > 0 {
         return Part::Outside;
@@ -78,12 +86,15 @@ fn read_outer(text: &[u8]) -> Part {
 }
 
 /// Reads a bracket in a class.
-fn read_inner(text: &[u8]) -> Part {
-    let len = name_len(&text[1..]);
+fn read_inner(text: &[u8]) -> Part
+    requires { 0 < length text.now }
+{
+    let name = &text[1..];
+    let len = name_len(name);
     if len == 0 {
         return Part::Opening(opening_len(text));
     }
-    if is_known(&text[2..2 + len]) {
+    if is_known(&name[1..1 + len]) {
         return Part::Plain(len + 4);
     }
     Part::Unknown

@@ -132,20 +132,30 @@ impl LineInput {
     /// Leaves standard input after the bytes that were read, without their last `lines` lines unless the end was reached. More blocks than are
     /// kept aren't given back.
     pub fn leave(&mut self, lines: u64) {
+        if !self.ended {
+            self.give_back(lines);
+        }
+        for _blocks in 0..MOST_BLOCKS {
+            let Some(mut block) = self.blocks.pop_front() else {
+                return;
+            };
+            block.consume(usize::MAX);
+        }
+    }
+
+    /// Gives back what wasn't returned, and so many lines of what was. The blocks before them are left.
+    fn give_back(&mut self, lines: u64) {
         let mut lines = lines;
         let mut given = self.given;
-        while !self.ended {
+        for _blocks in 0..MOST_BLOCKS {
             let Some(mut block) = self.blocks.pop_back() else {
                 return;
             };
             if let Some(len) = kept_len(first_of(&mut block, given), &mut lines) {
                 block.consume(len);
-                break;
+                return;
             }
             given = usize::MAX;
-        }
-        while let Some(mut block) = self.blocks.pop_front() {
-            block.consume(usize::MAX);
         }
     }
 }
@@ -167,7 +177,10 @@ impl Read for LineInput {
 pub fn begins_with_zero(rt: &HostRuntime, stdin: Stdin) -> io::Result<bool> {
     let mut blocks = Vec::new(rt.alloc());
     let mut left = FIRST;
-    while left > 0 {
+    for _blocks in 0..FIRST {
+        if left == 0 {
+            return Ok(false);
+        }
         let mut block = stdin.lock();
         let bytes = first_of(&mut block, left);
         if bytes.is_empty() {
@@ -176,7 +189,7 @@ pub fn begins_with_zero(rt: &HostRuntime, stdin: Stdin) -> io::Result<bool> {
         if has_zero(bytes) {
             return Ok(true);
         }
-        left -= bytes.len();
+        left = left.saturating_sub(bytes.len());
         match blocks.push(block) {
             Ok(()) => {}
             Err(_) => return Err(no_memory()),

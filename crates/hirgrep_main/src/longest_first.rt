@@ -1,7 +1,8 @@
 //! The order in which several strings are searched for.
 ghost use Rattle.std.specs.Prelude.{◌≡◌, false, map};
 ghost use Rattle.std.specs.List.Sorted.{IsPermutation};
-ghost use Rattle.hirgrep_main.specs.Strings.{are_strings, is_special, is_string};
+ghost use Rattle.std.specs.List.{list_any};
+ghost use Rattle.hirgrep_main.specs.Strings.{are_strings, has_operator, is_special};
 
 use std::alloc::AllocError;
 
@@ -15,18 +16,30 @@ fn is_special(byte: u8) -> bool
     OPERATORS.contains(&byte)
 }
 
-/// Whether the pattern stands for itself alone.
-fn is_string(pattern: &str) -> bool
-    ensures { result ≡ is_string pattern.now }
+/// Whether a pattern has an operator.
+fn has_operator(pattern: &[u8]) -> bool
+    ensures { result ≡ has_operator pattern.now }
 {
-    !pattern.as_bytes().iter().any(|byte| is_special(*byte))
+    pattern.iter().any(|byte| is_special(*byte))
+}
+
+/// Whether one of the patterns has an operator.
+fn any_has_operator(patterns: &[&str]) -> bool
+    ensures { result ≡ list_any has_operator (map (λ p. p.now) patterns.now) }
+{
+    for pattern in patterns {
+        if has_operator(pattern.as_bytes()) {
+            return true;
+        }
+    }
+    false
 }
 
 /// Whether all patterns stand for themselves alone.
 fn are_strings(patterns: &[&str]) -> bool
     ensures { result ≡ are_strings (map (λ p. p.now) patterns.now) }
 {
-    !patterns.iter().any(|pattern| !is_string(pattern))
+    !any_has_operator(patterns)
 }
 
 /// Puts patterns that are strings in the order of their lengths in characters, the longest first. So of several that match at an offset the
