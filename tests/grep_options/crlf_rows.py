@@ -61,7 +61,7 @@ ROWS = [
     (("-n", "-v", "^$", "lines"), 0, b"1:one\r\n3:two\r\n4:last\n", ALIKE),
     (("-v", "-e", "^#", "-e", "^$", "notes"), 0, b"x\r\n", ALIKE),
     (("-v", "-x", "one|", "lines"), 0, b"two\r\nlast\n", ALIKE),
-    (("-c", "-v", "", "lines"), 1, b"0\n", ALIKE),
+    (("-c", "-v", "", "lines"), 1, b"", "ripgrep counts where no line can be selected"),
     # the options that say what is printed
     (("-c", "", "lines"), 0, b"4\n", ALIKE),
     (("-c", "$", "lines"), 0, b"4\n", ALIKE),

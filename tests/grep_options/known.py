@@ -5,7 +5,7 @@ from dataclasses import dataclass, replace
 
 from .files import FILES
 from .options import Pattern, asked_of
-from .report import report
+from .report import are_strings, in_order, report
 
 # files with bytes that aren't UTF-8
 BROKEN = {"broken", "cut", "latin", "cr_broken", "beyond"}
@@ -40,11 +40,6 @@ class Case:
         return {it: FILES[it] for it in self.files}
 
 
-def selects_no_line(case):
-    """GNU grep ends before it reads a file where an empty pattern and -v leave no line."""
-    return case.has("-v") and case.has_empty_pattern()
-
-
 def takes_what_is_no_character(case):
     """GNU grep takes three and four bytes for a character that spell a surrogate, or a number above 10FFFF."""
     return case.reads({"beyond"})
@@ -77,11 +72,18 @@ def is_the_empty_word(case):
 
 
 def is_by_the_order_of_patterns(case):
-    """Of several patterns the first that matches at a place counts, and in GNU grep the longest match: it shows with -o and in colours."""
+    """Of several patterns that aren't all strings the first that matches at a place counts, and in GNU grep the longest match: it shows with
+    -o and in colours."""
     asked = case.asked()
-    if len(asked.patterns) == 1 or not (asked.matches or asked.color):
+    if len(asked.patterns) == 1 or are_strings(asked) or not (asked.matches or asked.color):
         return False
     return report(asked, case.data()) != report(replace(asked, patterns=asked.patterns[::-1]), case.data())
+
+
+def is_the_longest_string(case):
+    """Of several strings that match at a place the longest counts, as in GNU grep, and for ripgrep the first."""
+    asked = case.asked()
+    return are_strings(asked) and list(in_order(asked)) != list(asked.patterns)
 
 
 def has_other_returns(case):
@@ -143,7 +145,6 @@ def has_other_previews(case):
 
 
 GREP = [
-    selects_no_line,
     takes_fewer_than_none,
     takes_what_is_no_character,
     is_perl_beyond_ascii,
@@ -155,6 +156,7 @@ GREP = [
 ]
 
 RIPGREP = [
+    is_the_longest_string,
     has_other_returns,
     is_another_word,
     prints_empty_matches,

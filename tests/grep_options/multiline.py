@@ -1,6 +1,7 @@
 #!/usr/bin/env python3
 """What --multiline prints, as a model that is compared with `rg -U` of ripgrep 13 over random patterns, texts and options: -n -b -H
---column -c --count-matches -o -v -m -A -B -C -l -L -q --passthru --trim -M --vimgrep --heading --color -x -i -F --crlf. `report` is the definition
+--column -c --count-matches -o -v -m -A -B -C -l -L -q --passthru --trim -M --vimgrep --heading --color -x -i -F --crlf -r. hirgrep doesn't have the
+last one of them with --multiline yet. `report` is the definition
 of hirgrep in Python: matches are those of the whole text, and each line is printed with the parts of matches that are in it. Each
 difference from ripgrep has a name in QUIRKS, and stands at the line of `report` that it changes. With all of them the model prints what
 ripgrep prints. Run it with rg 13 in PATH: multiline.py [SEED [COUNT]]. It prints how many runs differ, and how many of them differ
@@ -27,6 +28,8 @@ QUIRKS = {
     'alone': "with -v each context line is searched by itself for the matches that are marked in it",
     'trim': "with -o the white space at the beginning of the line is left out, and not that of each match",
     'omitted': "the matches of the block are counted in the text that stands for a long line",
+    'blocks': "with -r offsets and numbers of adjacent lines count from the first of them, also if no match takes the line feed between them",
+    'rest': "with -r the text from each block to the end is printed with its matches replaced, and not the block alone",
     'heading': "with -o the heading stands also above nothing",
     'empty': "-o prints empty matches if the pattern can't match a line feed (a difference without --multiline, too)",
 }
@@ -53,11 +56,16 @@ def matches(rx, text, start=0, strips=False, reverse=False):
         yield s, e
         last = at = e
 
+def in_order(patterns, how):
+    """The patterns in the order in which they are preferred: if all are strings, the longest first."""
+    if 'F' not in how and any(re.search(rb'[\\.^$|*+?()\[{]', p) for p in patterns): return patterns
+    return sorted(patterns, key=lambda p: len(p.decode(errors='surrogateescape')), reverse=True)
+
 def expression(patterns, how, rg):
     """The patterns as one, in Python's syntax. With --crlf the definition has the meaning of (?R): a carriage return ends a line too. In
     ripgrep `$` is `\\r??$`, and the carriage return is cut off a match."""
     out = []
-    for p in patterns:
+    for p in patterns if rg else in_order(patterns, how):
         if 'F' in how: p = re.escape(p)
         if 'x' in how: p = b'^(?:' + p + b')$'
         if 'crlf' in how: p = with_returns(p, rg)
@@ -112,6 +120,52 @@ def cut(s, e, line, crlf):
     start = min(max(s, place) - place, len(l))
     return start, max(start, min(max(e, place) - place, size))
 
+# ---- replaced lines
+
+def expanded(template, m):
+    """The template for a match. Only `$0`, `$1` and `$$` are used here."""
+    return re.sub(rb'\$(\$|[0-9])', lambda t: b'$' if t[1] == b'$' else (m.group(int(t[1])) or b'') if int(t[1]) <= m.re.groups else b'', template)
+
+def replaced_block(rx, template, text, start, end, found):
+    """The text between two offsets with the template instead of each match that begins there, and where the templates are in it."""
+    out = b''; at = start; spans = []
+    for s, e in found:
+        if not (start <= s < end or s == e == end == len(text)): continue
+        m = rx.match(text, s)
+        out += text[at:s]; first = len(out)
+        out += expanded(template, m)
+        spans.append((start + first, start + len(out)))
+        at = max(at, min(e, end))
+    return out + text[at:end], spans
+
+def is_joined(line, found):
+    """Whether a match takes the line feed of a line."""
+    n, place, l, ended = line
+    return any(s <= place + len(l) < e for s, e in found)
+
+def replaced(rx, template, text, lines, sel, found, joins, rest):
+    """The lines that are printed instead of selected ones: those of the text of adjacent ones between which a match takes the line feed, with
+    the matches that begin there replaced. Numbers and offsets count from those of its first line."""
+    new, new_sel, own, new_blocks = [], [], {}, {}
+    i = 0
+    while i < len(lines):
+        if not sel[i]:
+            new.append(lines[i]); new_sel.append(False); i += 1
+            continue
+        j = i
+        while j < len(lines) and sel[j] and (j == i or joins or is_joined(lines[j - 1], found)): j += 1
+        number, start = lines[i][0], lines[i][1]
+        end = lines[j - 1][1] + whole(lines[j - 1])
+        out, spans = replaced_block(rx, template, text, start, len(text) if rest else end, found)
+        a = len(new)
+        rows = [(number + k - 1, start + p, l, ended) for k, p, l, ended in text_lines(out)]
+        for row in rows:
+            own[len(new)] = spans
+            new.append(row); new_sel.append(True)
+        for k in range(a, len(new)): new_blocks[k] = (a, len(new), spans)
+        i = j
+    return new, new_sel, own, new_blocks
+
 # ---- the report
 
 def limited(most, wanted):
@@ -134,6 +188,7 @@ def report(patterns, text, o, quirks=frozenset()):
     found = list(matches(rx, text, 0, strips))
     if 'lines' in q and not multi:
         found = [(place + s, place + e) for n, place, l, ended in lines for s, e in matches(rx, l[:-1] if crlf and ended and l.endswith(b'\r') else l)]
+    every = found
     if 'last' in q and not text.endswith(b'\n'): found = [m for m in found if m[0] < len(text)]
     phantom = False  # whether there is a match after the last line feed
     blocks = []  # ripgrep's blocks of adjacent lines, as first and last line with the matches in them
@@ -175,14 +230,16 @@ def report(patterns, text, o, quirks=frozenset()):
         n = sum(sel)
         return (name + b':' if name else b'') + b'%d\n' % n if n or 'none' not in quirks or any_sel else b''
     # lines
+    block_at = {}
+    for a, b, ms in blocks:
+        for i in range(a, b): block_at[i] = (a, b, ms)
+    own = {}
+    if o.get('r') is not None and not inv: lines, sel, own, block_at = replaced(rx, o['r'], text, lines, sel, every if 'last' in q else found, multi and 'blocks' in q, 'rest' in q)
     A, B = o.get('A', 0), o.get('B', 0)
     passthru = o.get('passthru')
     heading = o.get('heading') and name
     red = (lambda t: b'\x1b[0m\x1b[31m' + t + b'\x1b[0m' if t else b'') if o.get('color') else (lambda t: t)
     out = b''; last = None
-    block_at = {}
-    for a, b, ms in blocks:
-        for i in range(a, b): block_at[i] = (a, b, ms)
     for i, line in enumerate(lines):
         n, place, l, ended = line
         beside = not sel[i] and (passthru or any(sel[max(0, i - A):i]) or any(sel[i + 1:i + 1 + B]) or ('after' in q and phantom and i + B >= len(lines)))
@@ -192,7 +249,7 @@ def report(patterns, text, o, quirks=frozenset()):
         sep = b':' if sel[i] else b'-'
         has_marks = sel[i] != inv
         block = block_at.get(i)
-        mine = [m for m in found if touches(*m, line)] if has_marks else []
+        mine = [m for m in own.get(i, found) if touches(*m, line)] if has_marks and (i in own or o.get('r') is None) else []
         if 'alone' in q and has_marks and inv:
             mine = [(place + s, place + e) for s, e in matches(rx, text[place:place + whole(line)], 0, strips) if s < whole(line)]
         spans = [cut(s, e, line, crlf) for s, e in mine]
@@ -221,7 +278,7 @@ def report(patterns, text, o, quirks=frozenset()):
         shown = len(spans)
         if o.get('vimgrep') and not inv: shown = sum(1 for m in mine if begins_in(m[0], line))  # those that are printed
         if 'omitted' in q and block and has_marks and not inv: shown = len(block[2])
-        if not (o.get('column') or o.get('color') or o.get('vimgrep')) and not o.get('o'): shown = 0
+        if not (o.get('column') or o.get('color') or o.get('vimgrep') or i in own) and not o.get('o'): shown = 0
         if o.get('o') and not ('last' in q and (block and not block[2] if multi else touched[i] and not mine)):
             if not has_marks: continue
             for (s, e), (ms, me) in zip(spans, mine):
@@ -238,7 +295,7 @@ def report(patterns, text, o, quirks=frozenset()):
                 else: out += fields(column, offset) + red(part[drop:]) + b'\n'
         elif o.get('vimgrep') and has_marks and (mine or (block and block[2])):
             for (s, e), (ms, me) in zip(spans, mine):
-                first = i if beside else next(k for k in range(len(lines)) if begins_in(ms, lines[k]))
+                first = i if beside else next(k for k in range(len(lines)) if begins_in(ms, lines[k]) and own.get(k) is own.get(i))
                 if first != i and not ('long' in q and not beside and all(is_long(whole(lines[k])) for k in range(first, i))): continue
                 if 'start' in q and ms == me == place and not beside: continue
                 offset = place if 'vimgrep' in q and not beside else place + s
@@ -316,9 +373,10 @@ def words(o):
     w += ['--color', 'always', '--colors', 'path:none', '--colors', 'line:none', '--colors', 'column:none', '--colors', 'match:none', '--colors', 'match:fg:red'] if o.get('color') else ['--color', 'never']
     for k in 'mABM':
         if o.get(k) is not None: w += ['-' + k, str(o[k])]
+    if o.get('r') is not None: w += ['-r', o['r'].decode()]
     return w
 
-def case(rnd):
+def case(rnd, replaces=False):
     o = {'how': []}
     r = rnd.random()
     if r < .12: o['how'].append('x')
@@ -352,6 +410,9 @@ def case(rnd):
     if o.get('count_matches'): o.pop('v', None)
     if o.get('m') is not None and (o.get('A') or o.get('B')): o.pop('m')
     if o.get('v') and o.get('color') and rnd.random() < .5: o['A'] = o['B'] = 1; o.pop('m', None); o.pop('passthru', None)
+    if replaces:
+        o['r'] = rnd.choice([b'', b'X', b'<$0>', b'yy zz', b'$$'])
+        for k in ['v', 'count', 'count_matches', 'l', 'L', 'q', 'passthru', 'M']: o.pop(k, None)  # with -M ripgrep counts the matches of the rest
     letters = b'aabbcx AB \t' if any(re.search(rb'\[\^|\.|\\W', p) for p in pats) else b'aabbcx AB \t\xff'  # a byte that isn't UTF-8 is no character
     end = b'\r\n' if 'crlf' in o['how'] and rnd.random() < .8 else b'\n'
     text = end.join(bytes(rnd.choice(letters) for _ in range(rnd.choice([0, 0, 1, 1, 2, 3, 5]))) for _ in range(rnd.randrange(1, 7)))
@@ -390,7 +451,7 @@ def main():
     everything = frozenset(QUIRKS)
     with tempfile.TemporaryDirectory() as folder:
         for t in range(count):
-            pats, text, o = case(rnd)
+            pats, text, o = case(rnd, t % 3 == 0)
             is_ = rg_output(pats, text, o, folder)
             if is_ is None: panics += 1; continue
             if same(report(pats, text, o), is_, o): plain += 1

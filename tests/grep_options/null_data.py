@@ -11,10 +11,15 @@ def split_records(text):
     parts = text.split(TERMINATOR)
     return [(l, True) for l in parts[:-1]] + ([(parts[-1], False)] if parts[-1] else [])
 
+def in_order(patterns, how):
+    """The patterns in the order in which they are preferred: if all are strings, the longest first."""
+    if 'F' not in how and any(re.search(rb'[\\.^$|*+?()\[{]', p) for p in patterns): return patterns
+    return sorted(patterns, key=lambda p: len(p.decode(errors='surrogateescape')), reverse=True)
+
 def expression(patterns, how):
     """`.` and negated classes match line feeds. `^` and `$` hold at the ends of a record only."""
     out = []
-    for p in patterns:
+    for p in in_order(patterns, how):
         if 'F' in how: p = re.escape(p)
         else: p = b''.join({b'$': rb'\Z', b'^': rb'\A'}.get(t, t) for t in re.findall(rb'\[\^?[^\]]*\]|\\.|[\s\S]', p))
         if 'x' in how: p = rb'\A(?:' + p + rb')\Z'

@@ -8,6 +8,7 @@ from dataclasses import dataclass, replace
 BROKEN = "\udc80-\udcff"  # the bytes that aren't part of a character, as Python decodes them
 TOKEN = re.compile(r"\\[WSD]|\\.|\[\^|\[|\.", re.S)
 NEGATED = {"\\W": f"[^\\w{BROKEN}]", "\\S": f"[^\\s{BROKEN}]", "\\D": f"[^\\d{BROKEN}]", ".": f"[^\n{BROKEN}]", "[^": f"[^{BROKEN}"}
+OPERATORS = set("\\.^$|*+?()[{")
 WORD_START = f"(?:(?<!\\w)(?=\\w)|(?<![\\w{BROKEN}]))"
 WORD_END = f"(?:(?<=\\w)(?!\\w)|(?![\\w{BROKEN}]))"
 
@@ -73,8 +74,25 @@ def python_of(pattern):
     return TOKEN.sub(lambda it: NEGATED.get(it[0], it[0]), pattern)
 
 
+def are_strings(asked):
+    """Whether all patterns stand for themselves alone."""
+    return asked.fixed or not any(set(it) & OPERATORS for it in asked.patterns)
+
+
+def in_order(asked):
+    """The patterns in the order in which they are preferred: of strings the longest first."""
+    return sorted(asked.patterns, key=len, reverse=True) if are_strings(asked) else asked.patterns
+
+
+def wants_none(asked):
+    """Whether the patterns select no line, whatever it is."""
+    if asked.patterns == ("",):
+        return asked.invert and not asked.words and not asked.whole
+    return not asked.patterns and not asked.invert
+
+
 def regex_of(asked):
-    texts = [re.escape(it) if asked.fixed else python_of(it) for it in asked.patterns]
+    texts = [re.escape(it) if asked.fixed else python_of(it) for it in in_order(asked)]
     if asked.whole:
         texts = [f"\\A(?:{it})\\Z" for it in texts]
     elif asked.words:
@@ -358,7 +376,7 @@ def report(asked, files):
     regex, known, out, status = regex_of(asked), None, b"", 1
     has_name = asked.each or len(files) > 1 if asked.names is None else asked.names
     prints_all = asked.passthru and not (asked.quiet or asked.with_match or asked.count or asked.count_matches)
-    if asked.most == 0 and not asked.without and not prints_all:
+    if (asked.most == 0 or wants_none(asked)) and not asked.without and not prints_all:
         return 1, b""
     for name, data in files.items():
         printed, is_any, known = report_of_file(asked, regex, name.encode(), has_name, data, known and "earlier")

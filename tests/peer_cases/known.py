@@ -6,7 +6,6 @@ NOTICE = WORDING + ": the notice of a binary file"
 AFTER_ZERO = "lines before the first zero byte of a skipped file aren't searched"
 LOCALE = "the locale's characters: text is UTF-8 in every locale"
 ENCODING = "another encoding, or a mark of it at the beginning of a file"
-LONGEST = "of several matches at an offset the longest"
 
 RIPGREP = {
     "feature f196_persistent_config": "no file of options is read",
@@ -38,7 +37,6 @@ binary:after_match2_implicit""".split():
     RIPGREP[_name.replace(":", " ")] = AFTER_ZERO
 
 GNU = {
-    "fmbtest": LONGEST,
     "bre": "rows of its table: see below",
     "spencer1": "rows of its table: see below",
     "spencer1-locale": "rows of its table: see below",
@@ -53,14 +51,10 @@ GNU = {
     "equiv-classes": LOCALE,
     "sjis-mb": LOCALE,
     "turkish-eyes": LOCALE,
-    "foad1": LONGEST,
     "filename-lineno.pl": WORDING,
     "help-version": WORDING + ": what `--help` and `--version` print",
     "reversed-range-endpoints": WORDING,
-    "warn-char-classes": WORDING + ": `[:space:]` is a class of these letters",
     "stack-overflow": "patterns of any depth are accepted, or too large",
     "pcre-abort": "no pattern makes a search give up",
     "posix-bracket": "`[.a.]` in brackets",
-    "skip-read": "a file is opened, and reported if it is missing, also if no line can be selected",
-    "yesno": "the position of standard input after `-m`",
 }

@@ -53,7 +53,7 @@ GNU_GREP = [
     row("`-V`, `--version`", differing=("-V",), how="another name and number"),
     row("`--help`", differing=("--help",), how="another text; it lists all options by subject"),
     row("`-m`, `--max-count`", "-E -m 2 ab log", "-E -m2 -A1 ab log other", "-E -m0 ab log", differing=("-E -m -1 -v ab log",),
-        how="a negative number is no limit, also with `-v`; standard input is left after a block, not after a line"),
+        how="a negative number is no limit, also with `-v`"),
     row("`-b`, `--byte-offset`", "-E -b ab log", "-E -bo ab log"),
     row("`-n`, `--line-number`", "-E -n ab log other"),
     row("`--line-buffered`", "-E --line-buffered ab log"),

@@ -25,7 +25,7 @@ const SELECTION: [&str; 13] = [
     "max-count",
 ];
 
-const FILES: [&str; 25] = [
+const FILES: [&str; 15] = [
     "include",
     "exclude",
     "exclude-from",
@@ -36,6 +36,14 @@ const FILES: [&str; 25] = [
     "type-not",
     "type-list",
     "files",
+    "glob-case-insensitive",
+    "type-add",
+    "type-clear",
+    "max-filesize",
+    "max-size",
+];
+
+const IGNORING: [&str; 10] = [
     "ignore",
     "no-ignore",
     "ignore-file",
@@ -46,11 +54,6 @@ const FILES: [&str; 25] = [
     "no-require-git",
     "no-ignore-exclude",
     "no-ignore-files",
-    "glob-case-insensitive",
-    "type-add",
-    "type-clear",
-    "max-filesize",
-    "max-size",
 ];
 
 const FOLDERS: [&str; 9] = [
@@ -137,6 +140,9 @@ pub fn heading_of(id: &str) -> Option<&'static str> {
     }
     if is_listed(FILES.as_slice(), id) {
         return Some("Which files are searched");
+    }
+    if is_listed(IGNORING.as_slice(), id) {
+        return Some("Ignore files");
     }
     if is_listed(FOLDERS.as_slice(), id) {
         return Some("Folders and devices");

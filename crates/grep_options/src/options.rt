@@ -458,9 +458,13 @@ fn without_options<'a>(alloc: Global) -> Result<Command<'a>, AllocError>
         .override_usage(
             "hirgrep [OPTIONS] PATTERN [FILE]..\n       hirgrep [OPTIONS] -e PATTERN.. -f FILE.. [FILE]..",
         )
+        .after_help(
+            "Files are read as they are. Compressed ones need a pipe: zcat FILE | hirgrep PATTERN",
+        )
         .disable_help_flag(true)
         .disable_version_flag(true)
         .args_override_self(true)
+        .infer_long_args(true)
         .bin_name("hirgrep")
 }
 

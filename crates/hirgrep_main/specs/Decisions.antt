@@ -1,5 +1,6 @@
 -- What follows from the options, and from the outcome of the files.
-use Rattle.std.specs.Prelude.{ℕ, ◌+◌, ◌-◌, ◌^◌, min, Bool, true, false, not, ◌&&◌, ◌||◌, nat_eq, nat_lt, decimal, length, Option, Some, None, if◌then◌else◌}
+use Rattle.std.specs.Prelude.{ℕ, ◌+◌, ◌-◌, ◌^◌, min, Bool, true, false, not, ◌&&◌, ◌||◌, nat_eq, nat_lt, decimal, length, List, [], ◌∷◌, Option, Some, None, if◌then◌else◌}
+use Rattle.line_search.specs.declared.patterns.PatternOptions.{PatternOptions}
 use Rattle.grep_core.specs.declared.output_options.Print.{Print}
 use Rattle.grep_core.specs.declared.output_options.Print.TheVariants.{Lines, Matches, Count, CountMatches, NameIfAny, NameIfNone, Nothing}
 use Rattle.grep_core.specs.declared.output_options.OutputOptions.{OutputOptions}
@@ -8,7 +9,9 @@ use Rattle.grep_core.specs.Reporting.{prints_lines}
 use Rattle.std.specs.Char.{is_control}
 use Rattle.hirgrep_main.specs.declared.asked.Devices.{Devices}
 use Rattle.hirgrep_main.specs.declared.asked.Devices.TheVariants.{ReadAll, ReadNamed, SkipAll}
+use Rattle.hirgrep_main.specs.declared.asked.Asked.{Asked}
 use Rattle.hirgrep_main.specs.declared.asked.Names.{Names}
+use Rattle.hirgrep_main.specs.Readings.{prints_json}
 use Rattle.hirgrep_main.specs.declared.asked.Names.TheVariants.{Always, Never, IfSeveral}
 
 -- ---- what is asked for
@@ -48,9 +51,20 @@ prints_all what = prints_lines what.print && nat_lt 0 (first_of what.context)
 abbrev pub may_run_on : OutputOptions → Bool
 may_run_on what = prints_lines what.print && not (is_most 1 what.most) || prints_all what
 
--- No line can be selected, and nothing is printed whatever the inputs are.
-abbrev pub selects_none : OutputOptions → Bool
-selects_none what = is_most 0 what.most && not (prints_names_if_none what.print || prints_all what)
+-- These patterns select no line, whatever it is: there is no pattern, or with -v the only one is empty. With -w and -x an empty pattern
+-- doesn't match in every line.
+abbrev pub wants_none : OutputOptions → PatternOptions → List (List ℕ) → Bool
+wants_none what how [] = not what.invert
+wants_none what how ([] ∷ []) = what.invert && not (how.lines || how.words)
+wants_none what how ([] ∷ (p ∷ ps)) = false
+wants_none what how ((c ∷ cs) ∷ ps) = false
+
+-- No line can be selected, and nothing is printed whatever the inputs are, or counts of 0 alone. With --json the patterns don't decide it,
+-- since what is searched is counted.
+abbrev pub selects_none : Asked → List (List ℕ) → Bool
+selects_none a patterns =
+    (is_most 0 a.what.most || (not (prints_json a.reading) && wants_none a.what a.how patterns))
+    && not (prints_names_if_none a.what.print || prints_all a.what)
 
 -- The name of a file is printed once above its lines. Counts and names have none above them.
 abbrev pub is_headed : Bool → Print → Bool

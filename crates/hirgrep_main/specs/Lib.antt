@@ -9,6 +9,7 @@ pub mod Outcomes
 pub mod Readings
 pub mod Selecting
 pub mod SmartCase
+pub mod Strings
 pub mod Tasks
 pub mod Texts
 pub mod Totals

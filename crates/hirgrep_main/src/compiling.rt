@@ -8,7 +8,8 @@ ghost use Rattle.hirgrep_main.specs.Asks.{with_case};
 
 use crate::asked::Asked;
 use crate::decisions::{lists_matches, prints_summary, selects_none};
-use crate::messages::report_no_finder;
+use crate::longest_first::put_longest_first;
+use crate::messages::{is_misnamed, report_no_finder};
 use crate::outcome::Outcome;
 use crate::searching::{Files, search_files};
 use crate::smart_case::ignores_case;
@@ -38,17 +39,19 @@ fn texts_of(alloc: Global, asked: &Asked, patterns: &[&str]) -> Result<Vec<Strin
     Ok(texts)
 }
 
-/// Searches files with a finder.
+/// Searches files with a finder for these patterns. No file is opened if none of their lines can be selected.
 fn search_by(
     rt: &HostRuntime,
     finder: &mut Finder<'_>,
     asked: &Asked,
+    patterns: &[&str],
     files: Files<'_>,
 ) -> Result<Outcome, AllocError>
-    ensures { selects_none asked.now.what ≡ true → prints_summary asked.now ≡ false → IfOk result (λ o. o ≡ no_outcome) }
+    ensures { selects_none asked.now (map (λ p. p.now) patterns.now) ≡ true → files.entry.selection.now.lists ≡ false → prints_summary asked.now ≡ false
+        → IfOk result (λ o. o ≡ no_outcome) }
 {
     let mut outcome = Outcome::new();
-    if !selects_none(asked) {
+    if files.selection.lists || !selects_none(asked, patterns) {
         search_files(rt, finder, asked, &mut outcome, files)?;
     }
     if prints_summary(asked) {
@@ -66,11 +69,13 @@ fn refuse_patterns(
     asked: &Asked,
     patterns: &[&str],
     texts: &[&str],
+    files: Files<'_>,
     error: SearcherError,
 ) -> Result<Outcome, AllocError>
     ensures { IfOk result (λ o. o ≡ with_failure no_outcome) }
 {
-    report_no_finder(rt, &config_of(&asked.how), patterns, texts, error)?;
+    let from = files.pattern_files;
+    report_no_finder(rt, &config_of(&asked.how), from, patterns, texts, error)?;
     Ok(Outcome::failure())
 }
 
@@ -86,11 +91,11 @@ fn search_texts(
 ) -> Result<Outcome, AllocError> {
     match Finder::new(rt.alloc(), sought, lists_matches(asked)) {
         Ok(mut finder) => {
-            let outcome = search_by(rt, &mut finder, asked, files);
+            let outcome = search_by(rt, &mut finder, asked, patterns, files);
             drop(finder);
             outcome
         }
-        Err(error) => refuse_patterns(rt, asked, patterns, texts, error),
+        Err(error) => refuse_patterns(rt, asked, patterns, texts, files, error),
     }
 }
 
@@ -137,7 +142,13 @@ pub fn search(
     patterns: &[String],
     files: Files<'_>,
 ) -> Result<Outcome, AllocError> {
-    let patterns = strs_of(rt.alloc(), patterns)?;
+    let mut patterns = strs_of(rt.alloc(), patterns)?;
+    if !asked.how.fixed && is_misnamed(rt, files.pattern_files, patterns.as_slice())? {
+        return Ok(Outcome::failure());
+    }
+    if lists_matches(asked) {
+        put_longest_first(asked.how.fixed, &mut patterns)?;
+    }
     let texts = texts_of(rt.alloc(), asked, patterns.as_slice())?;
     let words = strs_of(rt.alloc(), texts.as_slice())?;
     let asked = with_case(asked, words.as_slice());

@@ -11,7 +11,7 @@ use std::io;
 use std::io::Read;
 
 /// How many bytes at the beginning of an input decide whether it is binary.
-const FIRST: usize = 98304;
+pub const FIRST: usize = 98304;
 
 /// Reads once into a buffer from an offset on. Returns how many bytes were read.
 fn read_at<R: Read>(reader: &mut R, buffer: &mut Vec<u8>, at: usize) -> io::Result<usize>

@@ -10,6 +10,7 @@ ghost use Rattle.hirgrep_main.specs.Outcomes.{no_outcome, with_failure};
 mod arguments;
 mod asked;
 mod binary;
+mod class_names;
 mod columns;
 mod compiling;
 mod counting;
@@ -20,7 +21,9 @@ mod grep_colors;
 mod ignoring;
 mod input;
 mod input_report;
+mod line_input;
 mod listing;
+mod longest_first;
 mod loops;
 mod messages;
 mod opening;
@@ -83,8 +86,16 @@ fn run_given(
     matches: &ArgMatches<'_>,
     files: Files<'_>,
 ) -> Result<Outcome, AllocError> {
-    match patterns_of(rt, asked, matches)? {
-        Some(patterns) => search(rt, asked, patterns.as_slice(), files),
+    let mut pattern_files = Vec::new(rt.alloc());
+    match patterns_of(rt, asked, matches, &mut pattern_files)? {
+        Some(patterns) => {
+            let pattern_files = pattern_files.as_slice();
+            let files = Files {
+                pattern_files,
+                ..files
+            };
+            search(rt, asked, patterns.as_slice(), files)
+        }
         None => Ok(Outcome::failure()),
     }
 }
@@ -131,6 +142,7 @@ fn run_chosen(
         names: matches.get_strs("words").unwrap_or(&[]),
         input_name: input_name(matches),
         selection,
+        pattern_files: &[],
     };
     if selection.lists {
         return run_list(rt, asked, words);

@@ -1,7 +1,9 @@
 //! Messages on standard error for patterns that are rejected, and for inputs that aren't searched to their end.
 
 use crate::asked::Asked;
+use crate::class_names::{Misnamed, first_misnamed};
 use crate::loops::loop_offset;
+use crate::patterns::PatternFile;
 use crate::shown::Shown;
 use hirhead::pointed;
 use lazy_dfa::BuildError;
@@ -59,15 +61,33 @@ fn shown_text(alloc: Global, text: &str) -> Result<String, AllocError> {
     text.to_string(alloc)
 }
 
-/// Reports a message about a pattern, and shows the offset in the pattern if one is known.
+/// The file of a pattern, and its line there.
+fn line_of<'a>(from: &'a [PatternFile<'a>], number: usize) -> Option<(&'a str, usize)> {
+    let mut found = None;
+    for file in from {
+        if let Some(line) = number.checked_sub(file.first) {
+            found = Some((file.name, line.saturating_add(1)));
+        }
+    }
+    found
+}
+
+/// Reports a message about a pattern, with its file and line or with its number, and shows the offset in the pattern if one is known.
 fn report_pattern(
     rt: &HostRuntime,
+    from: &[PatternFile<'_>],
     number: usize,
     message: &str,
     pattern: &str,
     place: Option<usize>,
 ) -> Result<(), AllocError> {
-    let _ = eprintln!(rt; "hirgrep: pattern {number}: {message}");
+    let _ = match line_of(from, number) {
+        Some((name, line)) => {
+            let name = Shown(name);
+            eprintln!(rt; "hirgrep: {name}:{line}: {message}")
+        }
+        None => eprintln!(rt; "hirgrep: pattern {number}: {message}"),
+    };
     let Some(at) = place else {
         return Ok(());
     };
@@ -86,6 +106,7 @@ fn report_pattern(
 /// Reports why a pattern is rejected, and shows the offset of the error.
 fn report_refused(
     rt: &HostRuntime,
+    from: &[PatternFile<'_>],
     patterns: &[&str],
     error: PatternError,
 ) -> Result<(), AllocError> {
@@ -94,7 +115,8 @@ fn report_refused(
         return Err(AllocError);
     };
     let pattern = patterns.get(number).copied().unwrap_or("");
-    report_pattern(rt, number, kind.message(), pattern, Some(span.start))
+    let place = Some(span.start);
+    report_pattern(rt, from, number, kind.message(), pattern, place)
 }
 
 /// Reports that matches can't be printed or marked for a pattern with an unbounded repetition whose body can match the empty string. Shows
@@ -102,6 +124,7 @@ fn report_refused(
 fn report_loop(
     rt: &HostRuntime,
     config: &Config,
+    from: &[PatternFile<'_>],
     patterns: &[&str],
     number: usize,
 ) -> Result<(), AllocError> {
@@ -109,7 +132,7 @@ fn report_loop(
         "matches can't be printed or marked, since what is repeated without a bound may be empty";
     let pattern = patterns.get(number).copied().unwrap_or("");
     let place = loop_offset(rt.alloc(), config, pattern)?;
-    report_pattern(rt, number, message, pattern, place)
+    report_pattern(rt, from, number, message, pattern, place)
 }
 
 /// Reports why the patterns can't be compiled. A limit on their size is named.
@@ -126,17 +149,64 @@ fn report_build(rt: &HostRuntime, patterns: &[&str], error: BuildError) -> Resul
     Ok(())
 }
 
+/// Reports a name of a class in a pattern that is none.
+fn report_misnamed(
+    rt: &HostRuntime,
+    from: &[PatternFile<'_>],
+    number: usize,
+    pattern: &str,
+    misnamed: Misnamed,
+) -> Result<(), AllocError> {
+    let Misnamed::Unknown(at) = misnamed else {
+        let words = "character class syntax is [[:space:]], not [:space:]";
+        match line_of(from, number) {
+            Some((name, line)) => {
+                let name = Shown(name);
+                let _ = eprintln!(rt; "hirgrep: {name}:{line}: {words}");
+            }
+            None => {
+                let _ = eprintln!(rt; "hirgrep: {words}");
+            }
+        }
+        return Ok(());
+    };
+    report_pattern(
+        rt,
+        from,
+        number,
+        "no character class has this name",
+        pattern,
+        Some(at),
+    )
+}
+
+/// Whether a pattern has a name of a class that is none. The first one is reported.
+pub fn is_misnamed(
+    rt: &HostRuntime,
+    from: &[PatternFile<'_>],
+    patterns: &[&str],
+) -> Result<bool, AllocError> {
+    for (number, pattern) in patterns.iter().enumerate() {
+        if let Some(misnamed) = first_misnamed(pattern) {
+            report_misnamed(rt, from, number, pattern, misnamed)?;
+            return Ok(true);
+        }
+    }
+    Ok(false)
+}
+
 /// Reports why no finder can be built. `texts` are the patterns in the syntax that is parsed under these options.
 pub fn report_no_finder(
     rt: &HostRuntime,
     config: &Config,
+    from: &[PatternFile<'_>],
     patterns: &[&str],
     texts: &[&str],
     error: SearcherError,
 ) -> Result<(), AllocError> {
     match error {
-        SearcherError::Text(error) => report_refused(rt, texts, error),
-        SearcherError::EmptyLoop(number) => report_loop(rt, config, patterns, number),
+        SearcherError::Text(error) => report_refused(rt, from, texts, error),
+        SearcherError::EmptyLoop(number) => report_loop(rt, config, from, patterns, number),
         SearcherError::Build(error) => report_build(rt, patterns, error),
     }
 }

@@ -11,22 +11,26 @@ ghost use Rattle.hirgrep_main.specs.Outcomes.{Continues, after_search, with_fail
 ghost use Rattle.hirgrep_main.specs.Tasks.{count_of, patterns_by};
 ghost use Rattle.hirgrep_main.specs.Texts.{printed_name};
 
+use crate::asked::Asked;
+use crate::binary::{Binary, prints_lines};
 use crate::columns::width_at;
 use crate::counting::Counting;
 use crate::decisions::may_run_on;
 use crate::input::input;
 use crate::input_report::report_one;
+use crate::line_input::{LineInput, begins_with_zero};
 use crate::listing::list_file;
 use crate::messages::Causes;
 use crate::outcome::Outcome;
 use crate::output::Output;
+use crate::reading::is_by_lines;
 use crate::task::{Task, shown_name};
 use crate::texts::separated_name;
-use crate::walking::is_output;
-use grep_core::Headed;
+use crate::walking::{Kind, is_output, kind_of};
+use grep_core::{Headed, OutputOptions};
 use line_search::Finder;
 use std::alloc::AllocError;
-use std::io::{Read, Write};
+use std::io::{Read, Stdin, Write};
 use std::rt::Runtime;
 use std::{fs, io};
 
@@ -135,6 +139,40 @@ fn search_aligned<R: Read + Drop>(
     }
 }
 
+/// How many lines are read after the last selected one: those that are printed as its context.
+fn after_of(what: &OutputOptions<'_>) -> u64 {
+    match what.context {
+        Some(context) if prints_lines(what.print) => context.after,
+        _ => 0,
+    }
+}
+
+/// What is asked for if the input has no zero byte among its first bytes.
+fn as_text<'a>(asked: Asked<'a>) -> Asked<'a> {
+    Asked {
+        binary: Binary::AsText,
+        ..asked
+    }
+}
+
+/// Whether standard input is left after the last selected line: it is a file, and there is a greatest number of lines. One with a zero byte
+/// among its first bytes isn't, if it counts as binary.
+fn is_left_after_line(rt: &HostRuntime, task: Task<'_>, stdin: Stdin) -> bool {
+    if task.asked.what.most.is_none() || !is_by_lines(task.asked.reading) {
+        return false;
+    }
+    let Ok(Kind::File) = kind_of(rt, "/dev/stdin", true) else {
+        return false;
+    };
+    if task.asked.binary == Binary::AsText {
+        return true;
+    }
+    match begins_with_zero(rt, stdin) {
+        Ok(zero) => !zero,
+        Err(_) => false,
+    }
+}
+
 /// Searches standard input.
 pub fn search_input(
     rt: &HostRuntime,
@@ -150,12 +188,25 @@ pub fn search_input(
         return;
     }
     let name = task.input_name;
-    let reader = input(rt, task.asked);
+    let stdin = input(rt, task.asked);
     if is_refused_output(rt, task, outcome, name, "/dev/stdin") {
         return;
     }
     let width = width_at(rt, &task.asked.what, "/dev/stdin");
-    search_aligned(rt, finder, task, outcome, name, width, Ok(reader));
+    let by_lines = is_left_after_line(rt, task, stdin);
+    let after = after_of(&task.asked.what);
+    let mut reader = LineInput::new(rt, stdin, by_lines, after > 0);
+    let asked = if by_lines {
+        as_text(*task.asked)
+    } else {
+        *task.asked
+    };
+    let task = Task {
+        asked: &asked,
+        ..task
+    };
+    search_aligned(rt, finder, task, outcome, name, width, Ok(&mut reader));
+    reader.leave(after);
 }
 
 /// Searches a file under this name, or prints the name.

@@ -13,6 +13,14 @@ use std::alloc::{AllocError, Global};
 use std::rt::Runtime;
 use std::{fs, io};
 
+/// A file of patterns.
+#[derive(Clone, Copy)]
+pub struct PatternFile<'a> {
+    pub name: &'a str,
+    /// The number of its first pattern, counted from 0.
+    pub first: usize,
+}
+
 fn push_line(alloc: Global, patterns: &mut Vec<String>, line: &str) -> Result<(), AllocError>
     ensures { OnOk result (map string_bytes patterns.new.items ≡ map string_bytes patterns.old.items ++ line.now ∷ []) }
 {
@@ -99,12 +107,13 @@ fn text_of(rt: &HostRuntime, asked: &Asked, name: &str) -> Option<String> {
     }
 }
 
-/// Appends the patterns in files. Returns false if a file can't be read, after reporting the error.
-fn push_files(
+/// Appends the patterns in files, and the files themselves to another list. Returns false if a file can't be read, after reporting the error.
+fn push_files<'a>(
     rt: &HostRuntime,
     asked: &Asked,
     patterns: &mut Vec<String>,
-    names: &[&str],
+    files: &mut Vec<PatternFile<'a>>,
+    names: &[&'a str],
 ) -> Result<bool, AllocError>
     ensures { IfOk result (λ is_read. IsTrue is_read → (texts : List (List ℕ)) × (length texts ≡ length names.now)
         × (map string_bytes patterns.new.items ≡ map string_bytes patterns.old.items ++ flat_map (patterns_of_file asked.now.how.crlf)
@@ -114,6 +123,8 @@ fn push_files(
         let Some(text) = text_of(rt, asked, name) else {
             return Ok(false);
         };
+        let first = patterns.len();
+        files.push(PatternFile { name, first })?;
         push_text(rt.alloc(), patterns, asked.how.crlf, text.as_str())?;
     }
     Ok(true)
@@ -126,11 +137,12 @@ pub fn gives_patterns(matches: &ArgMatches<'_>) -> bool
     matches.contains_id("regexp") || matches.contains_id("file")
 }
 
-/// The patterns that `-e` and `-f` give. If a file of them can't be read, reports the error and returns none.
-pub fn patterns_of(
+/// The patterns that `-e` and `-f` give. The files are appended to a list. If one can't be read, reports the error and returns none.
+pub fn patterns_of<'a>(
     rt: &HostRuntime,
     asked: &Asked,
-    matches: &ArgMatches<'_>,
+    matches: &'a ArgMatches<'_>,
+    files: &mut Vec<PatternFile<'a>>,
 ) -> Result<Option<Vec<String>>, AllocError>
     ensures { IfOk result (λ o. IfSome o (λ v. ArePatterns asked.now.how.crlf (found_of matches.now) (map string_bytes v.items))) }
 {
@@ -139,6 +151,6 @@ pub fn patterns_of(
     let given = matches.get_strs("regexp").unwrap_or(&[]);
     push_given(alloc, &mut patterns, given)?;
     let names = matches.get_strs("file").unwrap_or(&[]);
-    let is_read = push_files(rt, asked, &mut patterns, names)?;
+    let is_read = push_files(rt, asked, &mut patterns, files, names)?;
     Ok(if is_read { Some(patterns) } else { None })
 }

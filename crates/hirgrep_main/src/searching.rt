@@ -13,6 +13,7 @@ use crate::decisions::{is_named, reads_found, reads_named};
 use crate::ignoring::IgnoreFiles;
 use crate::opening::{search_file, search_input};
 use crate::outcome::Outcome;
+use crate::patterns::PatternFile;
 use crate::reading::prints_json;
 use crate::selecting_files::Selection;
 use crate::shown::hides_controls;
@@ -33,6 +34,8 @@ pub struct Files<'a> {
     pub input_name: &'a str,
     /// Which files are searched.
     pub selection: &'a Selection,
+    /// The files of which patterns were read.
+    pub pattern_files: &'a [PatternFile<'a>],
 }
 
 /// Searches a device, a pipe or a socket, if it is to be read.
