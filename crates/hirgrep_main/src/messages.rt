@@ -62,7 +62,7 @@ fn shown_text(alloc: Global, text: &str) -> Result<String, AllocError> {
 }
 
 /// The file of a pattern, and its line there.
-fn line_of<'a>(from: &'a [PatternFile<'a>], number: usize) -> Option<(&'a str, usize)> {
+fn line_of<'a>(from: &[PatternFile<'a>], number: usize) -> Option<(&'a str, usize)> {
     let mut found = None;
     for file in from {
         if let Some(line) = number.checked_sub(file.first) {
