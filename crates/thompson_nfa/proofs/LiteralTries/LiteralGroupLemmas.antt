@@ -67,7 +67,7 @@ pub all_some_append : (gs hs : List (List (List ℕ))) → AllSome gs → AllSom
 all_some_append [] hs a b = b
 all_some_append (g ∷ gs) hs a b = (a.0, all_some_append gs hs a.1 b)
 
--- ---- the place of a byte
+-- ---- the position of a byte
 
 -- The first n of these bytes are less than b, and the one after them isn't.
 abbrev IsPlace : ℕ → ℕ → List ℕ → Type 0
