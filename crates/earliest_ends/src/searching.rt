@@ -55,22 +55,6 @@ fn search_counted<L: Ledger, M: Ledger>(
         .try_search_fwd(cache.forward_mut(), input, &mut work)
 }
 
-/// A half search forward whose work isn't counted.
-fn search_once(
-    re: &Regex,
-    cache: &mut Cache,
-    input: &Input<'_>,
-) -> Result<Option<HalfMatch>, MatchError>
-    requires own { AreCachesOf re.now cache.old }
-    ensures own { AreCachesOf re.now cache.new }
-    ensures untouched { cache.new.reverse ≡ cache.old.reverse }
-    ensures answer { Answers re.now.forward cache.new.forward input.now result }
-{
-    let first = Blank::new(1);
-    let second = Blank::new(1);
-    search_counted::<Brand, Brand>(re, cache, input, first, second)
-}
-
 /// The least end of the matches of a block that start at an offset or later, or none.
 ///
 /// If the regex is built of trees, finds the leftmost-first match and isn't in UTF-8 mode, this is the least end of all spans that any of
@@ -96,7 +80,10 @@ pub fn find_earliest_end(
 {
     see_bytes(block);
     calls_report_the_least_end();
-    match search_once(re, cache, &search_from(block, at)) {
+    let input = search_from(block, at);
+    let first = Blank::new(1);
+    let second = Blank::new(1);
+    match search_counted::<Brand, Brand>(re, cache, &input, first, second) {
         Ok(Some(half)) => Ok(Some(half.offset())),
         Ok(None) => Ok(None),
         Err(e) => Err(e),

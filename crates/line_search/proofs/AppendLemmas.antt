@@ -18,7 +18,7 @@ use Rattle.line_search.specs.Meant.{line_config}
 use Rattle.line_search.specs.Replacing.{all_names, most_groups, names_at, replaced_spans, replaced_text, text_of_group, written_for, written_spans}
 use Rattle.line_search.specs.Searchers.{AreReplaced}
 use Rattle.line_search.specs.declared.patterns.PatternOptions.{PatternOptions}
-use Rattle.line_search.proofs.ReplaceLemmas.{IsReplacedTo, all_replaced, comes_there, fits, none_replaced, one_match, one_replaced, written_so}
+use Rattle.line_search.proofs.ReplaceLemmas.{IsReplacedTo, all_replaced, comes_there, fits, one_match, one_replaced, written_so}
 
 pub writes_for : (how : PatternOptions) (names : List Names) (res : List Re) (line template slots : List ℕ) (m : Match) (own : Names) (t : Template)
     (old new : List ℕ) → new ≡ old ++ template_text (group_in line slots) t → IsReadFrom own template t →
@@ -39,10 +39,6 @@ AreReplacedTo how texts template line total out found count last = (res : List R
     IsReplacedTo (find (line_pattern how res) line) (written_for how (all_names how texts) res template line) line total out found count last
 
 module _ (how : PatternOptions) (texts : List (List ℕ)) (template line : List ℕ) (total : ℕ) where
-  pub replaces_none : (out : List ℕ) (found : List (ℕ × ℕ)) → out ≡ [] → found ≡ [] → AreReplacedTo how texts template line total out found 0 None
-  replaces_none out found no_bytes no_spans res read =
-      none_replaced (find (line_pattern how res) line) (written_for how (all_names how texts) res template line) line total out found no_bytes no_spans
-
   -- the match that was found
   abbrev Finds : Option ℕ → Option (ℕ × ℕ) → List ℕ → Type 0
   Finds last o cells = (res : List Re) → AreReadAs (line_config how) texts res → HasGroups (comes (find (line_pattern how res) line) last) o cells

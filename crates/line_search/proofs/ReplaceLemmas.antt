@@ -241,15 +241,6 @@ module _ (find_from : ℕ → Option Match) (written : Match → List ℕ) (line
     pub spans_are : found ++ written_spans written (unwrap_or last 0) (length out) (left total count last)
         ≡ written_spans written 0 0 (matches_from find_from total (find_from 0))
 
-  pub none_replaced : (total : ℕ) (out : List ℕ) (found : List (ℕ × ℕ)) → out ≡ [] → found ≡ [] → IsReplacedTo total out found 0 None
-  none_replaced total out found no_bytes no_spans =
-      let all : total - 0 ≡ total = omega arith in
-      record {
-        bytes_are = ap₂ (λ o n. o ++ replaced_by written line 0 (matches_from find_from n (find_from 0))) no_bytes all;
-        spans_are = ap₂ (λ f n. f ++ written_spans written 0 (length out) (matches_from find_from n (find_from 0))) no_spans all
-            ∙ ap (λ o. written_spans written 0 (length o) (matches_from find_from total (find_from 0))) no_bytes;
-      }
-
   pub one_replaced : (total : ℕ) (out new : List ℕ) (found now : List (ℕ × ℕ)) (count : ℕ) (last : Option ℕ) (m : Match) →
       IsReplacedTo total out found count last → count < total → comes find_from last ≡ Some m → m.start ≤ length line →
       new ≡ (out ++ slice_range line (unwrap_or last 0) m.start) ++ written m →

@@ -172,8 +172,8 @@ impl<'t> BlockSearch<'t> {
 
     /// Returns the start of the next line of a block that may have a match, or the end of the block if none may. It also returns whether
     /// that line is known to have a match. The offset `at` is the start of a line. No line from there up to the returned offset has a
-    /// match.
-    pub(crate) fn next_line(
+    /// match. If blocks can't be searched, this is the line at `at`.
+    pub(crate) fn next_candidate(
         &mut self,
         alloc: Global,
         block: &[u8],
@@ -185,28 +185,14 @@ impl<'t> BlockSearch<'t> {
         ensures next { IfOk result (IsNextLine self.old.0 self.old.1 block.now at) }
     {
         self.grow(alloc);
-        let reached = match self.reach(block, at) {
+        let Some(candidates) = &mut self.candidates else {
+            return Ok(Reached::here(at));
+        };
+        let reached = match candidates.next_candidate(block, at) {
             Ok(reached) => reached,
             Err(e) => return Err(e),
         };
         self.note(reached.passed);
-        Ok(reached)
-    }
-
-    /// Returns the next line that may have a match, by the present caches. If blocks can't be searched, this is the line at `at`.
-    fn reach(&mut self, block: &[u8], at: usize) -> Result<Reached, Fault>
-        requires within { at ≤ length block.now }
-        requires starts { IsLineStart block.now at }
-        ensures same { self.new ≡ self.old }
-        ensures next { IfOk result (IsNextLine self.old.0 self.old.1 block.now at) }
-    {
-        let Some(candidates) = &mut self.candidates else {
-            return Ok(Reached::here(at));
-        };
-        let reached = match candidates.next_line(block, at) {
-            Ok(reached) => reached,
-            Err(e) => return Err(e),
-        };
         Ok(reached)
     }
 }

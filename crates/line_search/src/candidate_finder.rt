@@ -78,20 +78,6 @@ impl<'t> CandidateFinder<'t> {
         }
     }
 
-    /// Returns the next line that may have a match, by the exact search.
-    fn reach(&mut self, alloc: Global, block: &[u8], at: usize) -> Result<Reached, Fault>
-        requires within { at ≤ length block.now }
-        requires starts { IsLineStart block.now at }
-        ensures same { self.new ≡ self.old }
-        ensures next { IfOk result (IsNextLine self.old.0 self.old.1 block.now at) }
-    {
-        let reached = match self.exact.next_line(alloc, block, at) {
-            Ok(reached) => reached,
-            Err(e) => return Err(e),
-        };
-        Ok(reached)
-    }
-
     /// Returns the next line that may have a match, by the search without looks at words. If there is none, this is the line at `at`.
     fn reach_wordless(&mut self, alloc: Global, block: &[u8], at: usize) -> Result<Reached, Fault>
         requires within { at ≤ length block.now }
@@ -102,7 +88,7 @@ impl<'t> CandidateFinder<'t> {
         let Some(wordless) = &mut self.wordless else {
             return Ok(Reached::here(at));
         };
-        let reached = match wordless.next_line(alloc, block, at) {
+        let reached = match wordless.next_candidate(alloc, block, at) {
             Ok(reached) => reached,
             Err(e) => return Err(e),
         };
@@ -131,7 +117,7 @@ impl<'t> CandidateFinder<'t> {
     /// Returns the start of the next line of a block that may have a match, or the end of the block if none may. It also returns whether
     /// that line is known to have a match. The offset `at` is the start of a line. No line from there up to the returned offset has a
     /// match.
-    pub(crate) fn next_line(
+    pub(crate) fn next_candidate(
         &mut self,
         alloc: Global,
         block: &[u8],
@@ -143,7 +129,7 @@ impl<'t> CandidateFinder<'t> {
         ensures next { IfOk result (IsNextLine self.old.0 self.old.1 block.now at) }
     {
         if self.wordless_left == 0 {
-            let reached = match self.reach(alloc, block, at) {
+            let reached = match self.exact.next_candidate(alloc, block, at) {
                 Ok(reached) => reached,
                 Err(e) => return Err(e),
             };

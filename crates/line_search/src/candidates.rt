@@ -6,7 +6,7 @@ ghost use Rattle.hir_core.specs.Tree.{Tree};
 ghost use Rattle.line_trees.specs.LineTrees.{line_tree, has_crlf, HasNoFeedFrom};
 ghost use Rattle.hirscan.specs.Built.{IsBuilt, FailsBuild};
 ghost use Rattle.ucd_perl.specs.Perl.{is_word_char};
-ghost use Rattle.earliest_ends.specs.Earliest.{IsEarliestError};
+ghost use Rattle.earliest_ends.specs.Earliest.{IsEarliestEnd, IsEarliestError, looks_by};
 ghost use Rattle.line_search.specs.BoundedTrees.{IsTreeOf};
 ghost use Rattle.line_search.specs.declared.patterns.PatternOptions.{PatternOptions};
 ghost use Rattle.line_search.specs.Candidates.{IsCandidatesOf, IsLineStart, HaveNoMatch, HasMatchAt, IsStop, IsStopIfAny};
@@ -142,6 +142,33 @@ fn stop_at(end: Option<usize>) -> Option<Stop>
     }
 }
 
+/// Where the search of a block from `at` on stops, given what it returned. It stops at the least end of the matches in the block that start
+/// at this offset or later. Or it stops at a byte at which it gives up, before which no such match ends. If there is no such match, it stops
+/// nowhere.
+fn stop_of(at: usize, found: Result<Option<usize>, MatchError>) -> Result<Option<Stop>, Fault>
+    ensures reported { (xs : List Tree) (block : List ℕ) →
+        IfOk found (λ o. IsEarliestEnd xs (looks_by is_word_char line_settings block) block at (length block) o) →
+        IfErr found (λ e. IsEarliestError is_word_char xs line_settings block at e) →
+        IfOk result (λ o. IsStopIfAny xs block at (option_map (λ stop. stop.place) o)) }
+    ensures ends { (xs : List Tree) (block : List ℕ) →
+        IfOk found (λ o. IsEarliestEnd xs (looks_by is_word_char line_settings block) block at (length block) o) →
+        IfOk result (λ o. IfSome o (λ stop. stop.is_end ≡ true → IsEnd xs block at stop.place)) }
+    ensures refused { IfErr result (λ e. e ≡ NoMemory) }
+{
+    let error = match found {
+        Ok(end) => return Ok(stop_at(end)),
+        Err(error) => error,
+    };
+    let place = match refused_at(at, &error) {
+        Ok(place) => place,
+        Err(e) => return Err(e),
+    };
+    Ok(Some(Stop {
+        place,
+        is_end: false,
+    }))
+}
+
 /// The regex of the line tree of this tree.
 fn line_regex(alloc: Global, tree: &Hir, crlf: bool) -> Result<Arc<Regex>, BuildError>
     ensures built { IfOk result (λ re. IsBuilt (line_tree crlf tree.now ∷ []) line_settings re.value) }
@@ -269,31 +296,6 @@ impl Candidates {
         !self.crlf && self.exact && stop.is_end && (self.feedless || start == at)
     }
 
-    /// Where a search stops that starts at this offset. It stops at the least end of the matches in the block that start at this offset or
-    /// later. Or it stops at a byte at which it gives up, before which no such match ends. If there is no such match, it stops nowhere.
-    fn stop_from(&mut self, block: &[u8], at: usize) -> Result<Option<Stop>, Fault>
-        requires { at ≤ length block.now }
-        ensures same { self.new.0 ≡ self.old.0 }
-        ensures reported { (xs : List Tree) (capacity : Option ℕ) → IsBuilt xs (sized_settings capacity) self.old.0.regex →
-            IfOk result (λ o. IsStopIfAny xs block.now at (option_map (λ stop. stop.place) o)) }
-        ensures ends { (xs : List Tree) (capacity : Option ℕ) → IsBuilt xs (sized_settings capacity) self.old.0.regex →
-            IfOk result (λ o. IfSome o (λ stop. stop.is_end ≡ true → IsEnd xs block.now at stop.place)) }
-        ensures refused { IfErr result (λ e. e ≡ NoMemory) }
-    {
-        let error = match find_earliest_end(&self.regex, &mut self.cache, block, at) {
-            Ok(end) => return Ok(stop_at(end)),
-            Err(error) => error,
-        };
-        let place = match refused_at(at, &error) {
-            Ok(place) => place,
-            Err(e) => return Err(e),
-        };
-        Ok(Some(Stop {
-            place,
-            is_end: false,
-        }))
-    }
-
     /// Returns the start of the next line that may have a match, or the end of the block if none may. The offset `at` is the start of a
     /// line. None of the lines from `at` up to the returned offset has a match.
     ///
@@ -303,7 +305,7 @@ impl Candidates {
     ///
     /// If that match ends in the line that starts at `at`, or if the tree consumes no line feed, it is a match of the line. If a carriage
     /// return belongs to the end of a line, it need not be one.
-    pub(crate) fn next_line(&mut self, block: &[u8], at: usize) -> Result<Reached, Fault>
+    pub(crate) fn next_candidate(&mut self, block: &[u8], at: usize) -> Result<Reached, Fault>
         requires within { at ≤ length block.now }
         requires starts { IsLineStart block.now at }
         ensures same { self.new.0 ≡ self.old.0 }
@@ -319,7 +321,8 @@ impl Candidates {
         ensures refused { IfErr result (λ e. e ≡ NoMemory) }
     {
         see_bytes(block);
-        let stop = match self.stop_from(block, at) {
+        let found = find_earliest_end(&self.regex, &mut self.cache, block, at);
+        let stop = match stop_of(at, found) {
             Ok(stop) => stop,
             Err(e) => return Err(e),
         };

@@ -1,15 +1,16 @@
-//! Finds patterns by automata. Where these give up at a quit byte, a program of the toolchain for the same patterns answers.
+//! Finds patterns by literals and automata. Where automata give up at a quit byte, a program of the toolchain for the same patterns answers.
 ghost use Rattle.std.specs.Prelude.{◌≡◌, IfErr, IfOk, map, option_map, true, ◌≤◌, length};
 ghost use Rattle.line_search.specs.Candidates.{IsLineStart, IsNextLine};
 ghost use Rattle.line_search.specs.FoundSpans.{IsNextSpan, IsFoundSpan};
 ghost use Rattle.line_search.specs.LineMatchers.{span_pair};
 ghost use Rattle.line_search.specs.Searchers.{AreReplaced, IsMatchReported, AreReported, IsSearcherError, SearchesFor};
 
+use crate::candidate_finder::CandidateFinder;
 use crate::candidates::Reached;
 use crate::fallback::ends_at;
 use crate::fault::Fault;
-use crate::line_finder::LineFinder;
 use crate::line_patterns::LinePatterns;
+use crate::literal_lines::{LiteralLines, line_end};
 use crate::replacing::Replaced;
 use crate::searcher::{Searcher, SearcherError};
 use crate::sizes::Size;
@@ -24,8 +25,10 @@ use std::mem;
 /// Automata search the lines. In some lines they give up at a quit byte, for example if `\b` is tried next to a byte that isn't ASCII. Such
 /// lines are searched by a program of the toolchain for the same patterns ([`LinePatterns`]).
 ///
-/// Blocks of lines are searched as the patterns stand, and, after that gave up at a quit byte, for some time without looks at words. That
-/// passes fewer lines, each of which is then searched by itself.
+/// In blocks of lines, the literals of which each match contains one are searched for first, and automata are asked about the lines that
+/// have one. While that doesn't pay, and if there are no such literals, automata search the blocks. They do so as the patterns stand, and,
+/// after that gave up at a quit byte, for some time without looks at words. That passes fewer lines, each of which is then searched by
+/// itself.
 ///
 /// If the caches of the automata are cleared too soon, they are enlarged, up to 256 MiB each. This happens for example if prose is searched
 /// for a thousand patterns that aren't literals.
@@ -35,7 +38,9 @@ pub struct Finder<'t> {
     patterns: &'t LinePatterns<'t>,
     with_matches: bool,
     slow: SlowSearch<'t>,
-    candidates: LineFinder<'t>,
+    /// The literals of which each match contains one, if useful ones are known.
+    literals: Option<LiteralLines>,
+    candidates: CandidateFinder<'t>,
     /// The size of the caches of the search of lines.
     line_size: Size,
     /// How often caches of the search of lines were cleared that have been replaced by larger ones.
@@ -47,8 +52,9 @@ pub struct Finder<'t> {
 }
 
 impl<'t> Model for Finder<'t> {
-    ghost use Rattle.std.specs.Prelude.{◌≡◌, true};
+    ghost use Rattle.std.specs.Prelude.{◌≡◌, IfSome, true};
     ghost use Rattle.hir_core.specs.Facts.{LoopsRead};
+    ghost use Rattle.line_search.specs.LiteralLines.{AreLiteralsOf};
     ghost use Rattle.line_search.specs.Searchers.{IsSearcherOf, Sought};
 
     ghost Value = { Sought };
@@ -58,7 +64,8 @@ impl<'t> Model for Finder<'t> {
     ghost invariant = { λ f.
         ((it : IsSearcherOf f.patterns.now.0 f.patterns.now.1 f.searcher.0) × (f.with_matches ≡ true → LoopsRead it.tree))
         × (f.slow ≡ f.patterns.now)
-        × (f.candidates ≡ f.patterns.now) };
+        × (f.candidates ≡ f.patterns.now)
+        × IfSome f.literals (AreLiteralsOf f.patterns.now.0 f.patterns.now.1) };
 }
 
 /// Whether a search failed because it ran out of memory.
@@ -101,12 +108,14 @@ impl<'t> Finder<'t> {
             Ok(searcher) => searcher,
             Err(e) => return Err(SearcherError::Build(e)),
         };
-        let candidates = LineFinder::new(alloc, patterns, tree, &searcher);
+        let literals = LiteralLines::new(alloc, tree, patterns.how().crlf);
+        let candidates = CandidateFinder::new(alloc, patterns, tree, &searcher);
         Ok(Finder {
             searcher,
             patterns,
             with_matches,
             slow: SlowSearch::new(patterns),
+            literals,
             candidates,
             line_size: Size::first(),
             past_clears: 0,
@@ -168,6 +177,55 @@ impl<'t> Finder<'t> {
         self.line_size.note(bytes, clears);
     }
 
+    /// Returns the next line that may have a match, by the literals. If there are none, this is the line at `at`.
+    fn skip_by_literals(&mut self, block: &[u8], at: usize) -> Reached
+        requires within { at ≤ length block.now }
+        requires starts { IsLineStart block.now at }
+        ensures same { self.new ≡ self.old }
+        ensures next { IsNextLine self.old.how self.old.texts block.now at result }
+    {
+        let Some(literals) = &mut self.literals else {
+            return Reached::here(at);
+        };
+        literals.next_candidate(block, at)
+    }
+
+    /// Whether the last search for literals stopped in the line that starts at this offset.
+    fn has_literal_at(&self, at: usize) -> bool {
+        match &self.literals {
+            Some(literals) => literals.stopped_at(at),
+            None => false,
+        }
+    }
+
+    /// Records that this many bytes of blocks were searched by automata alone.
+    fn note_blocks(&mut self, bytes: usize)
+        ensures { self.new ≡ self.old }
+    {
+        let Some(literals) = &mut self.literals else {
+            return;
+        };
+        literals.pass(bytes);
+    }
+
+    /// Asks automata about the line at `at` alone. Returns its start if it may have a match, and the start of the line after it otherwise.
+    fn search_line(&mut self, alloc: Global, block: &[u8], at: usize) -> Result<Reached, Fault>
+        requires within { at ≤ length block.now }
+        requires starts { IsLineStart block.now at }
+        ensures same { self.new ≡ self.old }
+        ensures next { IfOk result (IsNextLine self.old.how self.old.texts block.now at) }
+    {
+        let end = line_end(block, at);
+        let reached = match self.candidates.next_candidate(alloc, &block[..end], at) {
+            Ok(reached) => reached,
+            Err(e) => return Err(e),
+        };
+        if reached.start < end {
+            return Ok(reached);
+        }
+        Ok(Reached::here(reached.start))
+    }
+
     /// Returns the start of the next line of a block that may have a match, or the end of the block if none may. It also returns whether
     /// that line is known to have a match. The offset `at` is the start of a line. No line from there up to the returned offset has a
     /// match.
@@ -177,10 +235,22 @@ impl<'t> Finder<'t> {
         ensures same { self.new ≡ self.old }
         ensures next { IfOk result (IsNextLine self.old.how self.old.texts block.now at) }
     {
-        let reached = match self.candidates.next_line(alloc, block, at) {
+        let skipped = self.skip_by_literals(block, at);
+        if at < skipped.start {
+            return Ok(skipped);
+        }
+        if self.has_literal_at(at) {
+            let reached = match self.search_line(alloc, block, at) {
+                Ok(reached) => reached,
+                Err(e) => return Err(e),
+            };
+            return Ok(reached);
+        }
+        let reached = match self.candidates.next_candidate(alloc, block, at) {
             Ok(reached) => reached,
             Err(e) => return Err(e),
         };
+        self.note_blocks(reached.passed);
         Ok(reached)
     }
 

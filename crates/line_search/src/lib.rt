@@ -17,7 +17,6 @@ mod feeds;
 mod finder;
 mod joining;
 pub mod laws;
-mod line_finder;
 mod line_patterns;
 mod listing;
 mod literal_lines;

@@ -87,7 +87,7 @@ impl LiteralLines {
 
     /// Returns the start of the next line of a block that may have a match since the search for literals stops there, or the end of the
     /// block if none may. If the search stopped in this line before, or doesn't pay, this is the line at `at`.
-    pub(crate) fn next_line(&mut self, block: &[u8], at: usize) -> Reached
+    pub(crate) fn next_candidate(&mut self, block: &[u8], at: usize) -> Reached
         requires within { at ≤ length block.now }
         requires starts { IsLineStart block.now at }
         ensures same { self.new ≡ self.old }

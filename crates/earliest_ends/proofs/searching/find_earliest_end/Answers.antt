@@ -9,8 +9,8 @@ returns-in-Ok-Some-clause-found c = λ xs s built first plain words set.
     end_of_some xs s words c.args.block.now c.args.at c.in-Ok-Some.field-0
     (c.calls_report_the_least_end.ensures.found xs s c.args.re.now built first plain c.args.block.now c.see_bytes.ensures words set
     c.args.at
-    c.search_once.new.cache.forward c.in-Ok-Some.field-0
-    (subst (λ (q : Search). Answers c.args.re.now.forward c.search_once.new.cache.forward q (Ok c.in-Ok-Some.field-0)) c.search_from.ensures
+    c.search_counted.new.cache.forward c.in-Ok-Some.field-0
+    (subst (λ (q : Search). Answers c.args.re.now.forward c.search_counted.new.cache.forward q (Ok c.in-Ok-Some.field-0)) c.search_from-input.ensures
     c.in-Ok-Some.ensures.answer))
     c.in-Ok-Some.half c.offset.result c.in-Ok-Some.field-0-is c.offset.ensures
 
@@ -19,8 +19,8 @@ returns-in-Ok-None-clause-found c = λ xs s built first plain words set.
     end_of_none xs s words c.args.block.now c.args.at c.in-Ok-None.field-0
     (c.calls_report_the_least_end.ensures.found xs s c.args.re.now built first plain c.args.block.now c.see_bytes.ensures words set
     c.args.at
-    c.search_once.new.cache.forward c.in-Ok-None.field-0
-    (subst (λ (q : Search). Answers c.args.re.now.forward c.search_once.new.cache.forward q (Ok c.in-Ok-None.field-0)) c.search_from.ensures
+    c.search_counted.new.cache.forward c.in-Ok-None.field-0
+    (subst (λ (q : Search). Answers c.args.re.now.forward c.search_counted.new.cache.forward q (Ok c.in-Ok-None.field-0)) c.search_from-input.ensures
     c.in-Ok-None.ensures.answer))
     c.in-Ok-None.field-0-is
 
@@ -28,6 +28,6 @@ pub returns-in-Err-clause-refused : goal.returns-in-Err-clause-refused
 returns-in-Err-clause-refused c = λ xs s built first plain words set.
     c.calls_report_the_least_end.ensures.refused xs s c.args.re.now built first plain c.args.block.now c.see_bytes.ensures words set
     c.args.at
-    c.search_once.new.cache.forward c.in-Err.e
-    (subst (λ (q : Search). Answers c.args.re.now.forward c.search_once.new.cache.forward q (Err c.in-Err.e)) c.search_from.ensures
+    c.search_counted.new.cache.forward c.in-Err.e
+    (subst (λ (q : Search). Answers c.args.re.now.forward c.search_counted.new.cache.forward q (Err c.in-Err.e)) c.search_from-input.ensures
     c.in-Err.ensures.answer)

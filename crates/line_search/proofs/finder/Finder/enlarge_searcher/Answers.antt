@@ -7,4 +7,5 @@ invariant_of-self c = (
       c.in-Some.larger.0 c.args.size.capacity c.in-Some.ensures c.self.invariant.0,
   c.self.invariant.1,
   c.self.invariant.2,
+  c.self.invariant.3,
 )

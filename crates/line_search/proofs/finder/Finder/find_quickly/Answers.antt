@@ -12,6 +12,7 @@ invariant_of-self c = (
       (sym c.find_from.ensures.same) c.self.invariant.0,
   c.self.invariant.1,
   c.self.invariant.2,
+  c.self.invariant.3,
 )
 
 pub invariant_of-self-2 : goal.invariant_of-self-2
@@ -20,6 +21,7 @@ invariant_of-self-2 c = (
       (sym c.find_from.ensures.same) c.self.invariant.0,
   c.self.invariant.1,
   c.self.invariant.2,
+  c.self.invariant.3,
 )
 
 pub returns-clause-reported : goal.returns-clause-reported

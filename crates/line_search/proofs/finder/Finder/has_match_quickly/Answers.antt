@@ -10,6 +10,7 @@ invariant_of-self c = (
       (sym c.has_match.ensures.same) c.self.invariant.0,
   c.self.invariant.1,
   c.self.invariant.2,
+  c.self.invariant.3,
 )
 
 pub invariant_of-self-2 : goal.invariant_of-self-2
@@ -18,6 +19,7 @@ invariant_of-self-2 c = (
       (sym c.has_match.ensures.same) c.self.invariant.0,
   c.self.invariant.1,
   c.self.invariant.2,
+  c.self.invariant.3,
 )
 
 pub returns-clause-reported : goal.returns-clause-reported

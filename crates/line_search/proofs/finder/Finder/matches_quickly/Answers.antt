@@ -11,6 +11,7 @@ invariant_of-self c = (
       (sym c.matches.ensures.same) c.self.invariant.0,
   c.self.invariant.1,
   c.self.invariant.2,
+  c.self.invariant.3,
 )
 
 pub invariant_of-self-2 : goal.invariant_of-self-2
@@ -19,6 +20,7 @@ invariant_of-self-2 c = (
       (sym c.matches.ensures.same) c.self.invariant.0,
   c.self.invariant.1,
   c.self.invariant.2,
+  c.self.invariant.3,
 )
 
 pub returns-clause-reported : goal.returns-clause-reported

@@ -1,5 +1,6 @@
-use Rattle.std.proofs.Common.{None, inr, refl}
+use Rattle.std.proofs.Common.{None, ap, inr, refl, sym}
 use Rattle.line_search.specs.Replacing.{all_names}
+use Rattle.line_search.specs.declared.patterns.PatternOptions.{PatternOptions}
 use Rattle.line_search.proofs.BoundedTreeLemmas.{read_as}
 use Rattle.line_search.proofs.finder.Finder.new.Goals as goal
 
@@ -8,6 +9,8 @@ invariant_of-result c = (
   (record { tree = c.in-Ok.tree.now; mean = c.in-Ok.ensures.tree; capacity = None; built = c.in-Ok-new.ensures.built }, c.in-Ok.ensures.loops),
   c.new-2.ensures,
   c.new-candidates.ensures,
+  c.new-literals.ensures c.args.patterns.now.0 c.args.patterns.now.1 (ap (λ (h : PatternOptions). h.crlf) (sym c.how.ensures))
+      c.in-Ok.ensures.tree,
 )
 
 pub returns-clause-searches : goal.returns-clause-searches

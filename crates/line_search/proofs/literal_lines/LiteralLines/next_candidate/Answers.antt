@@ -3,7 +3,7 @@ use Rattle.line_trees.specs.LineTrees.{line_tree}
 use Rattle.literal_search.specs.Searches.{IsContainedIn, IsNextEnd}
 use Rattle.line_search.specs.Candidates.{IsNextLine}
 use Rattle.line_search.proofs.LiteralLemmas.{next_by_literals, none_by_literals}
-use Rattle.line_search.proofs.literal_lines.LiteralLines.next_line.Goals as goal
+use Rattle.line_search.proofs.literal_lines.LiteralLines.next_candidate.Goals as goal
 
 pub returns-in-Some-clause-next : goal.returns-in-Some-clause-next
 returns-in-Some-clause-next c how texts it =
