@@ -422,22 +422,6 @@ public:
     std::optional<match_groups> captures(String &&haystack, Rest &&...) = delete;
 
     /*
-     * The next matches from `from` on with their groups, at most so many, as hanneddois_captures_next lists them: an empty one right
-     * at the end of the one before it too. `from` is then where the following call goes on. If there are fewer matches than `most`,
-     * none follows. If the second form fails, the list has the matches before the search that failed.
-     */
-    std::vector<match_groups> captures_next(std::string_view haystack, std::size_t &from, std::size_t most)
-    {
-        return next_or(haystack, from, most, nullptr);
-    }
-    std::vector<match_groups> captures_next(std::string_view haystack, std::size_t &from, std::size_t most, failure &why) noexcept
-    {
-        return next_or(haystack, from, most, &why);
-    }
-    template <class String, class... Rest, detail::if_temporary_string<String> = 0>
-    std::vector<match_groups> captures_next(String &&haystack, Rest &&...) = delete;
-
-    /*
      * The haystack with its matches replaced, or with the first `limit` of them if that isn't 0. In a template $1, $name and
      * ${name} stand for groups of the match, and $$ for a dollar sign, as hanneddois_replace_all has them. With
      * replace_all_literal the replacement has no such meaning. If the call fails, the result is empty.
@@ -704,33 +688,6 @@ private:
                 return listed;
             room = listed.count;
         }
-    }
-
-    std::vector<match_groups> list_next(std::string_view haystack, std::size_t &from, std::size_t most, failure *why)
-    {
-        const std::size_t width = slot_count();
-        std::vector<hanneddois_match> rows(std::max(most, std::size_t{1}));
-        std::vector<std::size_t> slots(std::max(most * width, std::size_t{1}));
-        std::vector<match_groups> found;
-        found.reserve(most);
-        std::size_t count = 0;
-        hanneddois_error error;
-        hanneddois_captures_next(&handle_, detail::bytes_of(haystack), haystack.size(), &from, rows.data(), most, slots.data(),
-                                 most * width, width, &count, &error);
-        for (std::size_t i = 0; i < count; i++)
-            found.push_back(groups_of(haystack, rows[i], slots.data() + i * width));
-        detail::report(failure(error), why);
-        return found;
-    }
-
-    std::vector<match_groups> next_or(std::string_view haystack, std::size_t &from, std::size_t most, failure *why)
-    {
-        try {
-            return list_next(haystack, from, most, why);
-        } catch (const std::bad_alloc &) {
-            detail::report(detail::failure_of(status::no_memory), why);
-        }
-        return {};
     }
 
     std::vector<match> find_all_or(std::string_view haystack, failure *why)

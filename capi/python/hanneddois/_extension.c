@@ -949,47 +949,24 @@ static int want_groups(Scan *scan)
     return 0;
 }
 
-/* Whether a match doesn't count: an empty one inside a character of a str, and, unless all are listed, one right at the end of the last. */
-static inline int is_skipped(const Scan *scan, const hanneddois_match *row)
-{
-    return (row->end == scan->last_end && !scan->lists_all) || (scan->haystack.is_utf8 && is_inside_character(&scan->haystack, row->start));
-}
-
-/* Moves a match that was found ahead, with its slots, to an earlier row. */
-static __attribute__((noinline)) void move_row(Scan *scan, size_t to, size_t from)
-{
-    scan->rows[to] = scan->rows[from];
-    if (scan->width)
-        memcpy(scan->slots + to * scan->width, scan->slots + from * scan->width, scan->width * sizeof *scan->slots);
-}
-
-/* Drops the matches that don't count, and returns how many are left. Only empty ones don't. */
-static size_t drop_skipped(Scan *scan, size_t found)
-{
-    size_t count = 0;
-    for (size_t i = 0; i < found; i++) {
-        const hanneddois_match *row = &scan->rows[i];
-        if (row->start == row->end && is_skipped(scan, row))
-            continue;
-        scan->last_end = row->end;
-        if (count < i)
-            move_row(scan, count, i);
-        count++;
-    }
-    return count;
-}
-
 /* Finds the next matches, as many as there is room for, and returns how many. The count of the scan stays 0 meanwhile, since other threads
    may read it. */
 static size_t find_some(Scan *scan, Search *search)
 {
-    const Haystack *haystack = &scan->haystack;
-    size_t found, *slots = scan->width ? scan->slots : (size_t *)scan->rows;
-    scan->status = hanneddois_captures_next(&search->handle, haystack->bytes, haystack->length, &scan->from, scan->rows, scan->room, slots,
-                                            scan->room * scan->width, scan->width, &found, &scan->error);
-    if (!is_failure(scan->status))
-        scan->status = found < scan->room ? HANNEDDOIS_NONE : HANNEDDOIS_OK;
-    return drop_skipped(scan, found);
+    size_t count = 0;
+    while (count < scan->room) {
+        hanneddois_match *row = &scan->rows[count];
+        Query query = {scan->from, scan->width ? scan->slots + count * scan->width : (size_t *)row, scan->width};
+        scan->status = scan->from > scan->haystack.length ? HANNEDDOIS_NONE
+                                                          : find_from(scan->matcher, search, &scan->haystack, query, row, &scan->error);
+        if (scan->status != HANNEDDOIS_OK)
+            break;
+        int is_empty = row->start == row->end, is_skipped = is_empty && row->end == scan->last_end && !scan->lists_all;
+        scan->from = row->end + (is_skipped || (is_empty && scan->lists_all));
+        scan->last_end = row->end;
+        count += !is_skipped;
+    }
+    return count;
 }
 
 static int has_room(Scan *scan, size_t room)

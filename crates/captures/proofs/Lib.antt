@@ -5,6 +5,4 @@ pub mod SplitLemmas
 pub mod TemplateLemmas
 pub mod RowLemmas
 pub mod ListLemmas
-pub mod NextLemmas
-pub mod PieceLemmas
 pub mod CopyLemmas

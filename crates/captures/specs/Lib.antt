@@ -3,5 +3,4 @@ pub mod Patterns
 pub mod Groups
 pub mod Captures
 pub mod Rows
-pub mod NextMatches
 pub mod Replacing
