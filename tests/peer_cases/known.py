@@ -7,10 +7,14 @@ AFTER_ZERO = "lines before the first zero byte of a skipped file aren't searched
 LOCALE = "the locale's characters: text is UTF-8 in every locale"
 ENCODING = "another encoding, or a mark of it at the beginning of a file"
 
+PRE = "the option `--pre` isn't there, and is taken for the beginning of `--pretty`"
+
 RIPGREP = {
     "feature f196_persistent_config": "no file of options is read",
     "feature f411_single_threaded_search_stats": WORDING + ", which `--stats` prints to standard error",
     "feature f411_parallel_search_stats": WORDING + ", which `--stats` prints to standard error",
+    "misc preprocessing": PRE,
+    "misc preprocessing_glob": PRE,
     "feature f416_crlf_only_matching": "with `--crlf`, what isn't a whole line ends by a line feed",
     "feature f740_passthru": GREP_HABIT + ": `-o` prints no context lines",
     "feature f1_sjis": ENCODING,
