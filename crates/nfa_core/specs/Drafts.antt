@@ -3,9 +3,9 @@ use Rattle.std.specs.Prelude.{map}
 use Rattle.nfa_core.specs.BuilderStates.{DraftNode, empty_draft, range_draft, sparse_draft, look_draft, capture_start_draft}
 use Rattle.nfa_core.specs.BuilderStates.{capture_end_draft, union_draft, union_reverse_draft, fail_draft, match_draft}
 use Rattle.nfa_core.specs.Transitions.{range_of}
-use Rattle.nfa_core.specs.declared.draft.Draft.{Draft}
-use Rattle.nfa_core.specs.declared.draft.Draft.TheVariants.{Empty, ByteRange, Sparse, Look, CaptureStart, CaptureEnd, Union, UnionReverse}
-use Rattle.nfa_core.specs.declared.draft.Draft.TheVariants.{Fail, Match}
+use Rattle.nfa_core.specs.declared.building.draft.Draft.{Draft}
+use Rattle.nfa_core.specs.declared.building.draft.Draft.TheVariants.{Empty, ByteRange, Sparse, Look, CaptureStart, CaptureEnd, Union, UnionReverse}
+use Rattle.nfa_core.specs.declared.building.draft.Draft.TheVariants.{Fail, Match}
 
 abbrev pub draft_of : Draft → DraftNode
 draft_of (Empty next) = empty_draft next

@@ -6,7 +6,7 @@ ghost use Rattle.nfa_core.specs.Drafts.{draft_of};
 ghost use Rattle.nfa_core.specs.InOrder.{IsDraftOf};
 
 use crate::build_error::BuildError;
-use crate::draft::Draft;
+use crate::building::draft::Draft;
 use look_core::{AsciiWord, LookMatcher};
 use search_core::StateID;
 use std::alloc::Global;

@@ -12,9 +12,9 @@ ghost use Rattle.nfa_core.specs.States.{node_of};
 ghost use Rattle.nfa_core.specs.Transitions.{range_of};
 ghost use Rattle.nfa_core.specs.BuilderStates.{AscendsFrom};
 
+use crate::name_sets::sparse_set::SparseSet;
 use crate::nfa_parts::Parts;
 use crate::reached::{reached, state_at};
-use crate::sparse_set::SparseSet;
 use crate::state::State;
 use crate::transition::Transition;
 use look_core::{AsciiWord, LookMatcher, LookSet};

@@ -10,8 +10,8 @@ ghost use Rattle.nfa_core.specs.Walks.{distinct};
 ghost use Rattle.nfa_core.specs.Ways.{on_nothing};
 ghost use Rattle.search_core.specs.Index.{greatest_index};
 
+use crate::name_sets::sparse_set::SparseSet;
 use crate::nfa_parts::Parts;
-use crate::sparse_set::SparseSet;
 use crate::stack::{next_fresh, push, push_all};
 use crate::state::State;
 use crate::steps::Steps;

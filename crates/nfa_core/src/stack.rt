@@ -10,7 +10,7 @@ ghost use Rattle.std.specs.Bool.{nat_eq};
 ghost use Rattle.std.specs.List.{IsDistinct};
 ghost use Rattle.nfa_core.specs.Reached.{AreBelow, Meets};
 
-use crate::name_set::NameSet;
+use crate::name_sets::name_set::NameSet;
 use crate::steps::Steps;
 use search_core::StateID;
 use std::alloc::AllocError;

@@ -11,7 +11,7 @@ use Rattle.nfa_core.specs.NfaValue.{Nfa, IsSound}
 use Rattle.nfa_core.specs.Pasts.{HasPasts, IsNaming, name_in}
 use Rattle.nfa_core.specs.Renaming.{kept, renamed}
 use Rattle.nfa_core.specs.States.{node_of}
-use Rattle.nfa_core.specs.declared.draft.Draft.{Draft}
+use Rattle.nfa_core.specs.declared.building.draft.Draft.{Draft}
 use Rattle.nfa_core.proofs.BuildLemmas.{sound, nfa_made}
 use Rattle.nfa_core.proofs.ReachLemmas.{can_reach}
 use Rattle.search_types.proofs.ForCallers.{failed}

@@ -5,7 +5,7 @@ use Rattle.nfa_core.specs.BuilderStates.{Assembly, DraftNode, draft_at, way_byte
 use Rattle.nfa_core.specs.Drafts.{draft_of}
 use Rattle.nfa_core.specs.InOrder.{patterns_of, IsInOrder}
 use Rattle.nfa_core.specs.declared.build_error.BuildError.TheVariants.{the_data as BuildError}
-use Rattle.nfa_core.specs.declared.draft.Draft.TheVariants.{the_data as Draft}
+use Rattle.nfa_core.specs.declared.building.draft.Draft.TheVariants.{the_data as Draft}
 use Rattle.nfa_core.proofs.OrderLemmas.{order_patched}
 use Rattle.nfa_core.proofs.AddedLemmas.{refused, way_added, way_fault, free_way, never, drafts_kept, drafts_patched}
 use Rattle.nfa_core.proofs.builder.Builder.patch.Goals as goal
