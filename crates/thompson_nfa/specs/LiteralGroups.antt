@@ -2,7 +2,7 @@
 use Rattle.std.specs.Prelude.{◌≡◌, ℕ, suc, ◌+◌, ◌<◌, ◌≤◌, List, [], ◌∷◌, ◌++◌, map, length, get_or, nat_eq, nat_lt}
 use Rattle.std.specs.Prelude.{if◌then◌else◌}
 use denote.Ref.{Bor}
-use Rattle.thompson_nfa.specs.declared.literal_groups.Edge.{Edge}
+use Rattle.thompson_nfa.specs.declared.literals.literal_groups.Edge.{Edge}
 
 -- the strings that these references point to
 abbrev pub texts : List (Bor (List ℕ)) → List (List ℕ)

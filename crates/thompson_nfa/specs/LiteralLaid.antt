@@ -3,8 +3,8 @@ use Rattle.std.specs.Prelude.{◌≡◌, ℕ, ◌+◌, ◌<◌, ◌≤◌, List,
 use Rattle.thompson_nfa.specs.LiteralGroups.{bytes_in, strings_in_all, AddsGroups}
 use Rattle.thompson_nfa.specs.LiteralStems.{after_prefix}
 use Rattle.thompson_nfa.specs.LiteralTries.{edges_in, matches_in, IsNode}
-use Rattle.thompson_nfa.specs.declared.literal_groups.Edge.{Edge}
-use Rattle.thompson_nfa.specs.declared.literal_nodes.Node.{Node}
+use Rattle.thompson_nfa.specs.declared.literals.literal_groups.Edge.{Edge}
+use Rattle.thompson_nfa.specs.declared.literals.literal_nodes.Node.{Node}
 
 -- what contracts see of a node: the stem of its strings, and the items of what follows it in each
 pub record NodeValue : Type 0 where

@@ -10,7 +10,7 @@ use Rattle.thompson_nfa.specs.Compiled.{Grows, AllTame, Weighs, sum_of_bytes}
 use Rattle.thompson_nfa.specs.Denotes.{Denotes}
 use Rattle.thompson_nfa.specs.LiteralTries.{edges_in, matches_in, AreChunks}
 use Rattle.thompson_nfa.specs.Shared.{branch_trees}
-use Rattle.thompson_nfa.specs.declared.literal_groups.Edge.{Edge}
+use Rattle.thompson_nfa.specs.declared.literals.literal_groups.Edge.{Edge}
 
 -- a transition by the byte of each edge, to the state of the node to which it leads
 abbrev pub edge_ranges : List ℕ → List Edge → List (ℕ × ℕ × ℕ)

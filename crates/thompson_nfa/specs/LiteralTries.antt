@@ -3,7 +3,7 @@ use Rattle.std.specs.Prelude.{◌≡◌, ℕ, suc, ◌+◌, ◌*◌, ◌≤◌, 
 use Rattle.hir_core.specs.Means.{stands}
 use Rattle.nfa_core.specs.Walks.{distinct}
 use Rattle.thompson_nfa.specs.LiteralGroups.{chunk_strings, Ascends, LeadWithin}
-use Rattle.thompson_nfa.specs.declared.literal_groups.Edge.{Edge}
+use Rattle.thompson_nfa.specs.declared.literals.literal_groups.Edge.{Edge}
 
 -- where the strings end that occur at offset i, in order
 abbrev pub literal_ends_of : List (List ℕ) → List ℕ → ℕ → List ℕ

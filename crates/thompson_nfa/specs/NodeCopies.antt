@@ -1,7 +1,7 @@
 -- Copies of the nodes of a trie.
 use Rattle.std.specs.Prelude.{◌≡◌, ℕ, ◌<◌, List, [], length, get_or}
-use Rattle.thompson_nfa.specs.declared.trie_nodes.Next.{Next}
-use Rattle.thompson_nfa.specs.declared.trie_nodes.Next.TheVariants.{Nothing, Node}
+use Rattle.thompson_nfa.specs.declared.range_tries.trie_nodes.Next.{Next}
+use Rattle.thompson_nfa.specs.declared.range_tries.trie_nodes.Next.TheVariants.{Nothing, Node}
 
 -- a node has no copy, or one that emits what it does
 pub record AreCopies (nodes copy : List (List (List (ℕ × ℕ)))) (names : List Next) : Type 0 where

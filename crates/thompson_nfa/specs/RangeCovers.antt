@@ -1,9 +1,9 @@
 -- The edges of a node, divided at both ends of a range and with an edge to no string for each gap in it. Then each edge lies in
 -- the range or outside it, and each byte of the range has an edge. A range is given by its first byte and the one after its last.
 use Rattle.std.specs.Prelude.{ℕ, ◌+◌, ◌-◌, ◌++◌, List, [], ◌∷◌, min, max, nat_lt, if◌then◌else◌}
-use Rattle.thompson_nfa.specs.declared.trie_nodes.Edge.{Edge}
-use Rattle.thompson_nfa.specs.declared.trie_nodes.Next.{Next}
-use Rattle.thompson_nfa.specs.declared.trie_nodes.Next.TheVariants.{Nothing}
+use Rattle.thompson_nfa.specs.declared.range_tries.trie_nodes.Edge.{Edge}
+use Rattle.thompson_nfa.specs.declared.range_tries.trie_nodes.Next.{Next}
+use Rattle.thompson_nfa.specs.declared.range_tries.trie_nodes.Next.TheVariants.{Nothing}
 
 -- an edge of these bytes
 abbrev pub edge_of : ℕ → ℕ → Next → Edge

@@ -3,8 +3,8 @@ use Rattle.std.specs.Prelude.{ℕ, ◌+◌, List, ◌++◌, map, Vec}
 use Rattle.std.specs.declared.alloc.Global.{Global}
 use Rattle.hir_core.specs.declared.utf8_sequences.Utf8Range.{Utf8Range}
 use Rattle.hir_core.specs.Sequences.{bytes_of}
-use Rattle.thompson_nfa.specs.declared.trie_nodes.Next.{Next}
-use Rattle.thompson_nfa.specs.declared.trie_nodes.Next.TheVariants.{Nothing, End, Node}
+use Rattle.thompson_nfa.specs.declared.range_tries.trie_nodes.Next.{Next}
+use Rattle.thompson_nfa.specs.declared.range_tries.trie_nodes.Next.TheVariants.{Nothing, End, Node}
 
 -- the ranges of each sequence of a list
 abbrev pub paths_of : List (Vec Utf8Range Global) → List (List (ℕ × ℕ))

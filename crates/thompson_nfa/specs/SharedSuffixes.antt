@@ -4,7 +4,7 @@ use Rattle.std.specs.Prelude.{◌≡◌, ℕ, ◌<◌, ◌≤◌, false, List, [
 use Rattle.nfa_core.specs.BuilderStates.{Assembly, draft_at, is_sparse, range_draft}
 use Rattle.thompson_nfa.specs.Added.{AddsDraft, Led}
 use Rattle.thompson_nfa.specs.SlotTables.{SlotTable, held_at, with_held}
-use Rattle.thompson_nfa.specs.declared.utf8_suffix_map.Utf8SuffixKey.{Utf8SuffixKey}
+use Rattle.thompson_nfa.specs.declared.class_fragments.utf8_suffix_map.Utf8SuffixKey.{Utf8SuffixKey}
 
 -- the key under which a state is kept that reads a byte of the range and leads to `next`
 abbrev pub key_of : ℕ → ℕ × ℕ → Utf8SuffixKey

@@ -1,7 +1,7 @@
 -- What a slot holds for a table of a version: what was stored in it at that version.
 use Rattle.std.specs.Prelude.{ℕ, ◌≤◌, Option, Some, None, if◌then◌else◌}
 use Rattle.std.specs.Bool.{nat_eq}
-use Rattle.thompson_nfa.specs.declared.slots.Slot.{Slot}
+use Rattle.thompson_nfa.specs.declared.class_fragments.slots.Slot.{Slot}
 
 -- the key and the state, unless the slot is of another version
 abbrev pub current : {K : Type 0} → ℕ → Option (Slot K) → Option (K × ℕ)

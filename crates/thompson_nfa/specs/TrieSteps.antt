@@ -1,8 +1,8 @@
 -- A step of an insertion: the edges of a node are divided at the ends of a range, and what follows those in the range gains the
 -- strings of the ranges that are left.
 use Rattle.std.specs.Prelude.{◌≡◌, ◌⊎◌, ℕ, ◌<◌, ◌≤◌, List, [], ◌∷◌, length}
-use Rattle.thompson_nfa.specs.declared.trie_nodes.Edge.{Edge}
-use Rattle.thompson_nfa.specs.declared.trie_nodes.Next.{Next}
+use Rattle.thompson_nfa.specs.declared.range_tries.trie_nodes.Edge.{Edge}
+use Rattle.thompson_nfa.specs.declared.range_tries.trie_nodes.Next.{Next}
 use Rattle.thompson_nfa.specs.RangeTries.{IsInSome, IsWith}
 use Rattle.thompson_nfa.specs.TrieNodes.{following, AreInside, Rises}
 

@@ -9,12 +9,12 @@ ghost use Rattle.thompson_nfa.specs.NotedGroups.{with_groups_of, keeps_group};
 ghost use Rattle.thompson_nfa.specs.Refusals.{FailsFragment, ExceedsLimit};
 ghost use Rattle.thompson_nfa.specs.Room.{room};
 
-use crate::class::byte_class;
+use crate::class_fragments::class::byte_class;
+use crate::class_fragments::scalar_class::compile_scalars;
 use crate::compiling::{Fragment, How, Shared};
 use crate::drafts::{add_choice, add_empty, end_group, lead, start_group};
 use crate::leaves::{empty, fail, literal, look, turned_position};
 use crate::literals::{all_literals, compile_literals};
-use crate::scalar_class::compile_scalars;
 use crate::which_captures::WhichCaptures;
 use hir_core::{Hir, HirKind};
 use nfa_core::{BuildError, Builder};

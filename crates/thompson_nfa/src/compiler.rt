@@ -74,7 +74,7 @@ impl Compiler {
     /// - An allocation fails.
     ///
     /// If no states may be shared, the size limit is exact to the byte:
-    /// [`limits_are_exact_where_no_states_are_shared`](crate::room_laws::limits_are_exact_where_no_states_are_shared).
+    /// [`limits_are_exact_where_no_states_are_shared`](crate::laws::room_laws::limits_are_exact_where_no_states_are_shared).
     pub fn build_many_from_hir(&mut self, exprs: &[Hir]) -> Result<NFA, BuildError>
         ensures options { self.new ≡ self.old }
         ensures compiled { IfOk result (λ n. IsCompiled self.old exprs.now n) }

@@ -1,8 +1,8 @@
 //! What the compile of a tree is given, and the fragment that it returns.
 
-use crate::range_trie::RangeTrie;
-use crate::utf8_state::Utf8State;
-use crate::utf8_suffix_map::Utf8SuffixMap;
+use crate::class_fragments::utf8_state::Utf8State;
+use crate::class_fragments::utf8_suffix_map::Utf8SuffixMap;
+use crate::range_tries::range_trie::RangeTrie;
 use crate::which_captures::WhichCaptures;
 use search_core::StateID;
 use std::alloc::Global;

@@ -7,8 +7,15 @@ ghost use Rattle.thompson_nfa.specs.Compiled.{Makes, TakesBytes, Does};
 ghost use Rattle.thompson_nfa.specs.LiteralParts.{is_literal, are_literals, bytes_of_literal};
 ghost use Rattle.thompson_nfa.specs.Refusals.{Quits, ExceedsLimit};
 
+mod literal_groups;
+mod literal_nodes;
+mod literal_states;
+mod literal_stems;
+mod literal_texts;
+mod literal_trie;
+
 use crate::compiling::Fragment;
-use crate::literal_trie::LiteralTrie;
+use crate::literals::literal_trie::LiteralTrie;
 use hir_core::{Hir, HirKind};
 use nfa_core::{BuildError, Builder};
 use std::alloc::Global;

@@ -21,7 +21,7 @@ use Rattle.thompson_nfa.specs.ScalarCounts.{scalars_in}
 use Rattle.thompson_nfa.specs.SharedSuffixes.{SharesRange, finds_state, adds_state, SharesRanges, shares_none, shares_more, AddsSequence}
 use Rattle.thompson_nfa.specs.SharedSuffixes.{AddsSequences, sequences_none, sequences_more}
 use Rattle.thompson_nfa.specs.SlotTables.{SlotTable}
-use Rattle.thompson_nfa.specs.declared.utf8_suffix_map.Utf8SuffixKey.{Utf8SuffixKey}
+use Rattle.thompson_nfa.specs.declared.class_fragments.utf8_suffix_map.Utf8SuffixKey.{Utf8SuffixKey}
 use Rattle.thompson_nfa.proofs.Classes.ShrunkLemmas.{paths_short, few_paths}
 use Rattle.thompson_nfa.proofs.Classes.SuffixSteps.{SharesUpTo, MetSequences}
 use Rattle.thompson_nfa.proofs.Classes.TriePathLemmas.{path_left}

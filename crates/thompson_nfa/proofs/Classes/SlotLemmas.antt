@@ -5,7 +5,7 @@ use Rattle.std.proofs.lemmas.List.{map-set, length-replicate}
 use Rattle.std.proofs.lemmas.List.Elements.{All-head, All-tail}
 use Rattle.std.proofs.lemmas.Grind.{common_steps}
 use Rattle.std.proofs.lemmas.Bool.Decides.{nat_tests}
-use Rattle.thompson_nfa.specs.declared.slots.Slot.{Slot}
+use Rattle.thompson_nfa.specs.declared.class_fragments.slots.Slot.{Slot}
 use Rattle.thompson_nfa.specs.Slots.{current, IsUpTo}
 
 -- a slot of this version holds its key

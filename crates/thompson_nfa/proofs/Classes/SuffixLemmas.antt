@@ -16,7 +16,7 @@ use Rattle.thompson_nfa.specs.Denotes.{Denotes}
 use Rattle.thompson_nfa.specs.SharedSuffixes.{key_of, AddsRange, SharesRange, finds_state, adds_state, SharesRanges, shares_none}
 use Rattle.thompson_nfa.specs.SharedSuffixes.{shares_more, AddsSequence, AddsSequences, sequences_none, sequences_more}
 use Rattle.thompson_nfa.specs.SlotTables.{SlotTable, held_at, empty_table, with_held}
-use Rattle.thompson_nfa.specs.declared.utf8_suffix_map.Utf8SuffixKey.{Utf8SuffixKey}
+use Rattle.thompson_nfa.specs.declared.class_fragments.utf8_suffix_map.Utf8SuffixKey.{Utf8SuffixKey}
 use Rattle.thompson_nfa.specs.Compiled.{looks_in, uses}
 use Rattle.thompson_nfa.proofs.Steps.LookLemmas.{quiet_led, quiet_added, uses_alternation, uses_sequence}
 use Rattle.thompson_nfa.proofs.Walks.AheadLemmas.{joins_last_part, denotes_concat_one}

@@ -12,7 +12,7 @@ use Rattle.thompson_nfa.specs.Added.{AddsDraft}
 use Rattle.thompson_nfa.specs.Choice.{no_choice}
 use Rattle.thompson_nfa.specs.SharedSuffixes.{AddsSequences}
 use Rattle.thompson_nfa.specs.SlotTables.{SlotTable, is_ready, empty_table}
-use Rattle.thompson_nfa.specs.declared.utf8_suffix_map.Utf8SuffixKey.{Utf8SuffixKey}
+use Rattle.thompson_nfa.specs.declared.class_fragments.utf8_suffix_map.Utf8SuffixKey.{Utf8SuffixKey}
 use Rattle.thompson_nfa.proofs.Steps.RoomLemmas.{sequence_count_take}
 use Rattle.thompson_nfa.proofs.Classes.ScalarBranches.{Branched}
 use Rattle.thompson_nfa.proofs.Classes.ScalarLemmas.{RangesTo, no_range}

@@ -17,7 +17,7 @@ use Rattle.thompson_nfa.specs.Refusals.{Stays, Quits}
 use Rattle.thompson_nfa.specs.SharedSuffixes.{key_of, AddsRange, SharesRange, finds_state, adds_state, SharesRanges, shares_none}
 use Rattle.thompson_nfa.specs.SharedSuffixes.{shares_more, AddsSequence, AddsSequences, sequences_none, sequences_more}
 use Rattle.thompson_nfa.specs.SlotTables.{SlotTable, is_ready, with_held}
-use Rattle.thompson_nfa.specs.declared.utf8_suffix_map.Utf8SuffixKey.{Utf8SuffixKey}
+use Rattle.thompson_nfa.specs.declared.class_fragments.utf8_suffix_map.Utf8SuffixKey.{Utf8SuffixKey}
 use Rattle.thompson_nfa.proofs.Steps.GrowLemmas.{grows_refl, grows_trans}
 use Rattle.thompson_nfa.proofs.Steps.ProgressLemmas.{first_quits, step_later}
 use Rattle.thompson_nfa.proofs.Classes.ScalarLemmas.{Spent, quits_later, rising_at, kind_patched}

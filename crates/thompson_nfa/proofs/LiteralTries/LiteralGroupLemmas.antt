@@ -5,7 +5,7 @@ use Rattle.std.proofs.lemmas.Bool.{cases_eq, cases_lt}
 use Rattle.std.proofs.lemmas.Grind.{common_steps}
 use Rattle.std.proofs.lemmas.List.{drop-map, get_or-map, get_or_at, length-drop, length-map, length-set, length-take, map-append, map-set}
 use Rattle.std.proofs.lemmas.List.{nil_from_length, take-map}
-use Rattle.thompson_nfa.specs.declared.literal_groups.Edge.{Edge}
+use Rattle.thompson_nfa.specs.declared.literals.literal_groups.Edge.{Edge}
 use denote.Ref.{Bor}
 use Rattle.thompson_nfa.specs.LiteralGroups.{texts, strings_of_groups, with_tail, tails, place_of, each_after, chunk_strings, edges_by}
 use Rattle.thompson_nfa.specs.LiteralGroups.{grouped_strings, bytes_in, bytes_in_all, strings_in_all, Ascends, LeadWithin, BytesAscend, AllSome}

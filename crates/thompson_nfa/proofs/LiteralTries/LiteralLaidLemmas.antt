@@ -6,7 +6,7 @@ use Rattle.std.proofs.lemmas.List.{drop-append-le, nil_from_length}
 use Rattle.std.proofs.Math.Seq.{drop-nil}
 use denote.Ref.{Bor}
 use Rattle.nfa_core.specs.Walks.{distinct}
-use Rattle.thompson_nfa.specs.declared.literal_groups.Edge.{Edge}
+use Rattle.thompson_nfa.specs.declared.literals.literal_groups.Edge.{Edge}
 use Rattle.thompson_nfa.specs.LiteralGroups.{texts, bytes_in, bytes_in_all, strings_in_all, AllSome}
 use Rattle.thompson_nfa.specs.LiteralLaid.{NodeValue, no_node, node_weight, weight_in_all, matches_in_all, HasStrings, LaysNode}
 use Rattle.thompson_nfa.specs.LiteralStems.{BeginAll, without_first, after_prefix}

@@ -10,7 +10,7 @@ use Rattle.std.specs.List.{starts_with}
 use denote.Ref.{Bor}
 use Rattle.hir_core.specs.Means.{stands}
 use Rattle.nfa_core.specs.Walks.{has, join, distinct}
-use Rattle.thompson_nfa.specs.declared.literal_groups.Edge.{Edge}
+use Rattle.thompson_nfa.specs.declared.literals.literal_groups.Edge.{Edge}
 use Rattle.thompson_nfa.specs.LiteralGroups.{texts, tails, run_of, each_after, chunk_strings, Ascends, LeadWithin, bytes_in, bytes_in_all}
 use Rattle.thompson_nfa.specs.LiteralGroups.{strings_in_all, AllSome, IsChunk, AddsGroups}
 use Rattle.thompson_nfa.specs.LiteralTries.{literal_ends_of, IsLike, item_strings, node_strings, edges_in, chunks_in, matches_in, AreChunks}

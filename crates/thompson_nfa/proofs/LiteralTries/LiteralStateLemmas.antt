@@ -21,7 +21,7 @@ use Rattle.thompson_nfa.specs.LiteralTries.{edges_in, chunks_in, matches_in, Are
 use Rattle.thompson_nfa.specs.LiteralStates.{edge_ranges, AddsItem, AddsNode, edge_trees, item_tree, item_trees, IsLed}
 use Rattle.thompson_nfa.specs.Refusals.{Stays, Quits, ExceedsLimit}
 use Rattle.thompson_nfa.specs.Shared.{LeadAll}
-use Rattle.thompson_nfa.specs.declared.literal_groups.Edge.{Edge}
+use Rattle.thompson_nfa.specs.declared.literals.literal_groups.Edge.{Edge}
 use Rattle.thompson_nfa.proofs.Walks.AheadLemmas.{denotes_alternation_one}
 use Rattle.thompson_nfa.proofs.Fragments.CaseLemmas.{AllDenote, none_denote, more_denote, all_denote_push, denotes_alternation}
 use Rattle.thompson_nfa.proofs.Walks.DenoteLemmas.{denotes_empty_here}

@@ -20,7 +20,7 @@ use Rattle.thompson_nfa.specs.LiteralGroups.{each_after, chunk_strings}
 use Rattle.thompson_nfa.specs.LiteralStates.{spelt_literal, literals, edge_ranges, edge_trees, item_tree, item_trees}
 use Rattle.thompson_nfa.specs.LiteralTries.{literal_ends_of, IsLike, item_strings, node_strings}
 use Rattle.thompson_nfa.specs.Shared.{read_then, branch_trees}
-use Rattle.thompson_nfa.specs.declared.literal_groups.Edge.{Edge}
+use Rattle.thompson_nfa.specs.declared.literals.literal_groups.Edge.{Edge}
 use Rattle.thompson_nfa.proofs.Walks.DenoteLemmas.{denotes_like, denotes_join, denotes_range}
 use Rattle.thompson_nfa.proofs.Walks.HaltLemmas.{halts_like}
 use Rattle.thompson_nfa.proofs.Walks.MeantLemmas.{meant_map}

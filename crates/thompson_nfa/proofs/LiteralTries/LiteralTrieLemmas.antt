@@ -18,7 +18,7 @@ use Rattle.thompson_nfa.specs.LiteralLaid.{NodeValue, no_node, node_weight, weig
 use Rattle.thompson_nfa.specs.LiteralTexts.{AddsText}
 use Rattle.thompson_nfa.specs.LiteralTries.{edges_in, chunks_in, matches_in, AreChunks}
 use Rattle.thompson_nfa.specs.Refusals.{Quits, ExceedsLimit}
-use Rattle.thompson_nfa.specs.declared.literal_groups.Edge.{Edge}
+use Rattle.thompson_nfa.specs.declared.literals.literal_groups.Edge.{Edge}
 use Rattle.hir_core.specs.Tree.{Tree, alternation}
 use Rattle.thompson_nfa.proofs.Steps.LookLemmas.{adds_none, quiet_plain, uses_literals}
 use Rattle.thompson_nfa.proofs.Walks.AheadLemmas.{denotes_then_empty}

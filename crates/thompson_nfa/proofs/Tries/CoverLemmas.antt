@@ -3,9 +3,9 @@ use Rattle.std.proofs.Common.{◌≡◌, ◌⊎◌, inl, inr, ℕ, ◌+◌, ◌-
 use Rattle.std.proofs.Common.{append-nil, append_assoc}
 use Rattle.std.proofs.lemmas.Bool.{cases_lt}
 use Rattle.std.proofs.lemmas.Bool.Decides.{nat_tests}
-use Rattle.thompson_nfa.specs.declared.trie_nodes.Edge.{Edge}
-use Rattle.thompson_nfa.specs.declared.trie_nodes.Next.{Next}
-use Rattle.thompson_nfa.specs.declared.trie_nodes.Next.TheVariants.{Nothing}
+use Rattle.thompson_nfa.specs.declared.range_tries.trie_nodes.Edge.{Edge}
+use Rattle.thompson_nfa.specs.declared.range_tries.trie_nodes.Next.{Next}
+use Rattle.thompson_nfa.specs.declared.range_tries.trie_nodes.Next.TheVariants.{Nothing}
 use Rattle.thompson_nfa.specs.RangeTries.{IsInSome}
 use Rattle.thompson_nfa.specs.TrieNodes.{following, IsInside, AreInside, Rises}
 use Rattle.thompson_nfa.specs.RangeCovers.{edge_of, piece, cut_edge, cover_from}

@@ -6,9 +6,9 @@ use Rattle.std.specs.List.{AllZip}
 use Rattle.std.specs.declared.alloc.AllocError.{AllocError}
 use Rattle.hir_core.specs.Sequences.{is_in_ranges, bytes_of}
 use Rattle.hir_core.specs.declared.utf8_sequences.Utf8Range.{Utf8Range}
-use Rattle.thompson_nfa.specs.declared.trie_nodes.Edge.{Edge}
-use Rattle.thompson_nfa.specs.declared.trie_nodes.Next.{Next}
-use Rattle.thompson_nfa.specs.declared.trie_nodes.Next.TheVariants.{Node}
+use Rattle.thompson_nfa.specs.declared.range_tries.trie_nodes.Edge.{Edge}
+use Rattle.thompson_nfa.specs.declared.range_tries.trie_nodes.Next.{Next}
+use Rattle.thompson_nfa.specs.declared.range_tries.trie_nodes.Next.TheVariants.{Node}
 use Rattle.thompson_nfa.specs.RangeTries.{IsInSome, IsApart, IsWith, AreRanges}
 use Rattle.thompson_nfa.specs.TrieNodes.{following, along, IsInside, AreInside, Rises, IsLater}
 use Rattle.thompson_nfa.specs.RangeCovers.{cover_from}

@@ -5,9 +5,9 @@ use Rattle.std.proofs.lemmas.Bool.{cases_eq}
 use Rattle.std.proofs.lemmas.List.{map-append, length-set, get_or-set_same, get_or-set_other, take_more, take_all}
 use Rattle.std.proofs.Math.Seq.{get_or-append_seam}
 use Rattle.hir_core.specs.declared.utf8_sequences.Utf8Range.{Utf8Range}
-use Rattle.thompson_nfa.specs.declared.trie_nodes.Edge.{Edge}
-use Rattle.thompson_nfa.specs.declared.trie_nodes.Next.{Next}
-use Rattle.thompson_nfa.specs.declared.trie_nodes.Next.TheVariants.{Nothing, Node}
+use Rattle.thompson_nfa.specs.declared.range_tries.trie_nodes.Edge.{Edge}
+use Rattle.thompson_nfa.specs.declared.range_tries.trie_nodes.Next.{Next}
+use Rattle.thompson_nfa.specs.declared.range_tries.trie_nodes.Next.TheVariants.{Nothing, Node}
 use Rattle.thompson_nfa.specs.NodeCopies.{AreCopies}
 use Rattle.thompson_nfa.specs.TrieNodes.{following, along, IsInside, AreInside, Rises, IsLater}
 use Rattle.thompson_nfa.proofs.Tries.CoverLemmas.{inside_append}

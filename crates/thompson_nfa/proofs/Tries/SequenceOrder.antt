@@ -1,8 +1,8 @@
 -- What the nodes of a trie emit ascends.
 use Rattle.std.proofs.Common.{◌≡◌, inl, inr, ℕ, zero, suc, ◌+◌, ◌<◌, ◌≤◌, List, [], ◌∷◌, ◌++◌, map, get_or, refl, arith, subst}
-use Rattle.thompson_nfa.specs.declared.trie_nodes.Edge.{Edge}
-use Rattle.thompson_nfa.specs.declared.trie_nodes.Next.{Next}
-use Rattle.thompson_nfa.specs.declared.trie_nodes.Next.TheVariants.{Nothing, End, Node}
+use Rattle.thompson_nfa.specs.declared.range_tries.trie_nodes.Edge.{Edge}
+use Rattle.thompson_nfa.specs.declared.range_tries.trie_nodes.Next.{Next}
+use Rattle.thompson_nfa.specs.declared.range_tries.trie_nodes.Next.TheVariants.{Nothing, End, Node}
 use Rattle.thompson_nfa.specs.RangeTries.{IsBeforeAll, IsTrie}
 use Rattle.thompson_nfa.specs.TrieNodes.{following, along, emitted_from, Rises, AreNodes}
 

@@ -5,7 +5,7 @@ use Rattle.std.proofs.lemmas.Bool.{and_parts, and_from, leb-true, le-leb, falseâ
 use Rattle.std.specs.List.{AllZip}
 use Rattle.hir_core.specs.Sequences.{is_in_ranges}
 use Rattle.hir_core.specs.declared.utf8_sequences.Utf8Range.{Utf8Range}
-use Rattle.thompson_nfa.specs.declared.trie_nodes.Edge.{Edge}
+use Rattle.thompson_nfa.specs.declared.range_tries.trie_nodes.Edge.{Edge}
 use Rattle.thompson_nfa.specs.RangeTries.{IsInSome, IsWith}
 use Rattle.thompson_nfa.specs.TrieNodes.{following, along, AreInside, Rises, IsLater}
 use Rattle.thompson_nfa.specs.TrieSteps.{EdgesRead, HasEdge, GainsStrings}

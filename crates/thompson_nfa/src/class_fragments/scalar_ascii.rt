@@ -7,7 +7,7 @@ ghost use Rattle.thompson_nfa.specs.AsciiClasses.{is_ascii};
 ghost use Rattle.thompson_nfa.specs.Compiled.{Makes, TakesBytes, Does};
 ghost use Rattle.thompson_nfa.specs.Refusals.{Quits, ExceedsLimit};
 
-use crate::class::byte_class;
+use crate::class_fragments::class::byte_class;
 use crate::compiling::Fragment;
 use nfa_core::{BuildError, Builder};
 use std::alloc::{AllocError, Global};

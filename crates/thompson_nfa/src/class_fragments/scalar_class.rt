@@ -7,11 +7,11 @@ ghost use Rattle.thompson_nfa.specs.Compiled.{Makes, TakesBytes, Does};
 ghost use Rattle.thompson_nfa.specs.Refusals.{Quits, ExceedsLimit};
 ghost use Rattle.thompson_nfa.specs.Room.{room};
 
+use crate::class_fragments::scalar_ascii::{compile_ascii, is_ascii};
+use crate::class_fragments::scalar_forward::compile_scalars_forward;
+use crate::class_fragments::scalar_reverse::compile_scalars_reverse;
+use crate::class_fragments::scalar_shrunk::compile_scalars_shrunk;
 use crate::compiling::{Fragment, How, Shared};
-use crate::scalar_ascii::{compile_ascii, is_ascii};
-use crate::scalar_forward::compile_scalars_forward;
-use crate::scalar_reverse::compile_scalars_reverse;
-use crate::scalar_shrunk::compile_scalars_shrunk;
 use nfa_core::{BuildError, Builder};
 use std::alloc::Global;
 

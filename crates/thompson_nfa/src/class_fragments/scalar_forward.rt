@@ -11,9 +11,9 @@ ghost use Rattle.thompson_nfa.specs.Refusals.{Quits, ExceedsLimit};
 ghost use Rattle.thompson_nfa.specs.Utf8Stacks.{path_of, StagesRise, AreBytes, ComesAfter, left_bytes, Keeps};
 ghost use Rattle.thompson_nfa.specs.Utf8Compiles.{IsCompiling, IsBeingCompiled, CanFollow};
 
+use crate::class_fragments::utf8_compiler::{add, begin, finish};
+use crate::class_fragments::utf8_state::Utf8State;
 use crate::compiling::Fragment;
-use crate::utf8_compiler::{add, begin, finish};
-use crate::utf8_state::Utf8State;
 use hir_core::{Utf8Sequence, Utf8Sequences};
 use nfa_core::{BuildError, Builder};
 use std::alloc::Global;

@@ -13,9 +13,9 @@ ghost use Rattle.thompson_nfa.specs.Refusals.{Stays, Quits, ExceedsLimit};
 ghost use Rattle.thompson_nfa.specs.SharedSuffixes.{key_of, AddsRange, SharesRange, SharesRanges, TakesWays, AddsSequence, AddsSequences};
 ghost use Rattle.thompson_nfa.specs.SlotTables.{is_ready};
 
+use crate::class_fragments::utf8_suffix_map::{Utf8SuffixKey, Utf8SuffixMap};
 use crate::compiling::Fragment;
 use crate::drafts::{add_choice, add_empty, lead};
-use crate::utf8_suffix_map::{Utf8SuffixKey, Utf8SuffixMap};
 use hir_core::{Utf8Range, Utf8Sequence, Utf8Sequences};
 use nfa_core::{BuildError, Builder, Transition};
 use search_core::StateID;

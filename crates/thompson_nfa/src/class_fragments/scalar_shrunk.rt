@@ -11,11 +11,11 @@ ghost use Rattle.thompson_nfa.specs.Refusals.{Quits, ExceedsLimit};
 ghost use Rattle.thompson_nfa.specs.ScalarCounts.{scalars_in};
 ghost use Rattle.thompson_nfa.specs.Shared.{read_tree};
 
-use crate::class_trie::insert_class;
+use crate::class_fragments::utf8_compiler::{add, begin, finish};
+use crate::class_fragments::utf8_state::Utf8State;
 use crate::compiling::Fragment;
-use crate::range_trie::RangeTrie;
-use crate::utf8_compiler::{add, begin, finish};
-use crate::utf8_state::Utf8State;
+use crate::range_tries::class_trie::insert_class;
+use crate::range_tries::range_trie::RangeTrie;
 use hir_core::Utf8Range;
 use nfa_core::{BuildError, Builder};
 use std::alloc::Global;

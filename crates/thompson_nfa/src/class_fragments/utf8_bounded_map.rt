@@ -1,8 +1,8 @@
 ghost use Rattle.std.specs.Prelude.{◌≡◌, ◌<◌, ◌↔◌, OnOk, OnErr, IsOk, IsTrue};
 ghost use Rattle.thompson_nfa.specs.SlotTables.{is_ready, unready_table, empty_table, with_held, IsStored};
 
-use crate::fnv::{START, mixed, offset_of};
-use crate::slots::Slots;
+use crate::class_fragments::fnv::{START, mixed, offset_of};
+use crate::class_fragments::slots::Slots;
 use nfa_core::Transition;
 use search_core::StateID;
 use std::alloc::{AllocError, Global};

@@ -14,9 +14,9 @@ ghost use Rattle.thompson_nfa.specs.RangeTries.{IsBefore};
 ghost use Rattle.thompson_nfa.specs.Utf8Stacks.{fresh, path_of, RisesIn, StagesRise, AreBytes, ComesAfter, open_bytes, left_bytes};
 ghost use Rattle.thompson_nfa.specs.Utf8Stacks.{Keeps, Compiles, MakesTop, Pops, PopsUntil, Turns, PartsAt};
 
+use crate::class_fragments::utf8_state::{Utf8Node, Utf8State};
 use crate::compiling::Fragment;
 use crate::drafts::add_empty;
-use crate::utf8_state::{Utf8Node, Utf8State};
 use hir_core::Utf8Range;
 use nfa_core::{BuildError, Builder, Transition};
 use search_core::StateID;

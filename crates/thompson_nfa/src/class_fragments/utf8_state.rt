@@ -5,7 +5,7 @@ ghost use Rattle.nfa_core.specs.Transitions.{range_of};
 ghost use Rattle.thompson_nfa.specs.SlotTables.{unready_table};
 ghost use Rattle.thompson_nfa.specs.Utf8Stacks.{frozen_with, fresh, advanced};
 
-use crate::utf8_bounded_map::Utf8BoundedMap;
+use crate::class_fragments::utf8_bounded_map::Utf8BoundedMap;
 use hir_core::Utf8Range;
 use nfa_core::Transition;
 use search_core::StateID;

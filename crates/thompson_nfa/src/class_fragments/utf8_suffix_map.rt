@@ -1,8 +1,8 @@
 ghost use Rattle.std.specs.Prelude.{◌≡◌, ◌<◌, OnOk, OnErr, IsOk, IsTrue};
 ghost use Rattle.thompson_nfa.specs.SlotTables.{is_ready, unready_table, empty_table, with_held, IsStored};
 
-use crate::fnv::{START, mixed, offset_of};
-use crate::slots::Slots;
+use crate::class_fragments::fnv::{START, mixed, offset_of};
+use crate::class_fragments::slots::Slots;
 use search_core::StateID;
 use std::alloc::{AllocError, Global};
 use std::marker::Model;
@@ -27,7 +27,7 @@ pub struct Utf8SuffixMap {
 }
 
 impl Model for Utf8SuffixMap {
-    ghost use Rattle.thompson_nfa.specs.declared.utf8_suffix_map.Utf8SuffixKey.{Utf8SuffixKey};
+    ghost use Rattle.thompson_nfa.specs.declared.class_fragments.utf8_suffix_map.Utf8SuffixKey.{Utf8SuffixKey};
     ghost use Rattle.thompson_nfa.specs.SlotTables.{SlotTable};
 
     ghost Value = { SlotTable Utf8SuffixKey };

@@ -4,8 +4,8 @@ ghost use Rattle.thompson_nfa.specs.LiteralGroups.{texts, strings_of_groups, str
 ghost use Rattle.thompson_nfa.specs.LiteralLaid.{NodeValue, node_value, LaysNode, IsLaidTrie};
 ghost use Rattle.thompson_nfa.specs.LiteralTries.{edges_in, matches_in, IsNode};
 
-use crate::literal_groups::{Edge, chunk, turn_len};
-use crate::literal_stems::{behind_stem, stem};
+use crate::literals::literal_groups::{Edge, chunk, turn_len};
+use crate::literals::literal_stems::{behind_stem, stem};
 use std::alloc::{AllocError, Global};
 use std::mem;
 

@@ -8,7 +8,7 @@ ghost use Rattle.thompson_nfa.specs.LiteralStates.{edge_ranges, AddsItem, AddsNo
 ghost use Rattle.thompson_nfa.specs.LiteralTries.{edges_in, chunks_in, matches_in, AreChunks};
 ghost use Rattle.thompson_nfa.specs.Refusals.{Stays, Quits, ExceedsLimit};
 
-use crate::literal_groups::Edge;
+use crate::literals::literal_groups::Edge;
 use nfa_core::{BuildError, Builder, Transition};
 use search_core::StateID;
 use std::alloc::{AllocError, Global};

@@ -7,9 +7,9 @@ ghost use Rattle.thompson_nfa.specs.Refusals.{Quits, ExceedsLimit};
 
 use crate::compiling::Fragment;
 use crate::drafts::add_empty;
-use crate::literal_nodes::nodes;
-use crate::literal_states::add_node;
-use crate::literal_texts::add_text;
+use crate::literals::literal_nodes::nodes;
+use crate::literals::literal_states::add_node;
+use crate::literals::literal_texts::add_text;
 use nfa_core::{BuildError, Builder};
 use search_core::StateID;
 use std::alloc::{AllocError, Global};

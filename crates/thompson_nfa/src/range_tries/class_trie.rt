@@ -5,7 +5,7 @@ ghost use Rattle.hir_core.specs.Sequences.{is_in_ranges, ranges_of_sequence, utf
 ghost use Rattle.thompson_nfa.specs.ClassTries.{HasTurned, GainsTurned, IsTurnedSpelling, AreTurnedSpellings};
 ghost use Rattle.thompson_nfa.specs.RangeTries.{AreRanges, IsTrie};
 
-use crate::range_trie::RangeTrie;
+use crate::range_tries::range_trie::RangeTrie;
 use hir_core::{Utf8Sequence, Utf8Sequences};
 use std::alloc::{AllocError, Global};
 

@@ -3,7 +3,7 @@ ghost use Rattle.std.specs.Prelude.{◌≡◌, ◌≤◌, length, map, IfOk, OnE
 ghost use Rattle.thompson_nfa.specs.NodeCopies.{AreCopies, AreNone};
 ghost use Rattle.thompson_nfa.specs.TrieNodes.{following, IsInside, IsLater};
 
-use crate::trie_nodes::{Edge, Next, Nodes};
+use crate::range_tries::trie_nodes::{Edge, Next, Nodes};
 use std::alloc::{AllocError, Global};
 
 /// Returns a list of `len` entries, one for each node: none has a copy.

@@ -2,7 +2,7 @@
 ghost use Rattle.std.specs.Prelude.{◌≡◌, ◌≤◌, ◌+◌, ◌++◌, IfOk, OnOk};
 ghost use Rattle.thompson_nfa.specs.RangeCovers.{piece, cut_edge, cover_from};
 
-use crate::trie_nodes::{Edge, Next};
+use crate::range_tries::trie_nodes::{Edge, Next};
 use hir_core::Utf8Range;
 use std::alloc::{AllocError, Global};
 

@@ -5,8 +5,8 @@ ghost use Rattle.thompson_nfa.specs.RangeTries.{AreRanges, IsApart, IsWith};
 ghost use Rattle.thompson_nfa.specs.TrieNodes.{following, IsInside, IsLater};
 ghost use Rattle.thompson_nfa.specs.TrieSteps.{IsCover, LiesWithin};
 
-use crate::range_cover::cover;
-use crate::trie_nodes::{Edge, Next, Nodes};
+use crate::range_tries::range_cover::cover;
+use crate::range_tries::trie_nodes::{Edge, Next, Nodes};
 use hir_core::Utf8Range;
 use std::alloc::{AllocError, Global};
 

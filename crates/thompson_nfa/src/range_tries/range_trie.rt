@@ -5,10 +5,10 @@ ghost use Rattle.hir_core.specs.Sequences.{bytes_of};
 ghost use Rattle.thompson_nfa.specs.RangeTries.{AreRanges, IsApart, IsTrie, IsWith};
 ghost use Rattle.thompson_nfa.specs.RangeWalks.{paths_of};
 
-use crate::range_copy::keep_below;
-use crate::range_insert::insert_below;
-use crate::range_walk::{call_each, emit};
-use crate::trie_nodes::{Next, Nodes};
+use crate::range_tries::range_copy::keep_below;
+use crate::range_tries::range_insert::insert_below;
+use crate::range_tries::range_walk::{call_each, emit};
+use crate::range_tries::trie_nodes::{Next, Nodes};
 use hir_core::Utf8Range;
 use std::alloc::{AllocError, Global};
 use std::marker::Model;

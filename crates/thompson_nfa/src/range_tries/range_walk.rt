@@ -5,7 +5,7 @@ ghost use Rattle.hir_core.specs.Sequences.{bytes_of};
 ghost use Rattle.thompson_nfa.specs.TrieNodes.{following, IsInside};
 ghost use Rattle.thompson_nfa.specs.RangeWalks.{paths_of, path_then};
 
-use crate::trie_nodes::{Edge, Next, Nodes};
+use crate::range_tries::trie_nodes::{Edge, Next, Nodes};
 use hir_core::Utf8Range;
 use std::alloc::{AllocError, Global};
 

@@ -1,7 +1,7 @@
 //! The nodes of a trie of ranges, each made once and never changed.
 ghost use Rattle.std.specs.Prelude.{◌≡◌, ◌<◌, ◌≤◌, ◌+◌, ◌++◌, [], ◌∷◌, ℕ, length, get_or, IfOk, OnErr, map};
 ghost use Rattle.hir_core.specs.Sequences.{bytes_of};
-ghost use Rattle.thompson_nfa.specs.declared.trie_nodes.Next.TheVariants.{Nothing, End, Node};
+ghost use Rattle.thompson_nfa.specs.declared.range_tries.trie_nodes.Next.TheVariants.{Nothing, End, Node};
 ghost use Rattle.thompson_nfa.specs.RangeTries.{IsTrie};
 ghost use Rattle.thompson_nfa.specs.TrieNodes.{along, following, IsInside, AreInside, Rises};
 

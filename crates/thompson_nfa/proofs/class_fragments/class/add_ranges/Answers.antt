@@ -2,7 +2,7 @@ use Rattle.std.proofs.Common.{◌+◌, ◌*◌, length}
 use Rattle.thompson_nfa.proofs.Fragments.ClassLemmas.{ascends, few_ranges, bytes_shown, bytes_counted}
 use Rattle.thompson_nfa.proofs.Steps.StepLemmas.{add_refused}
 use Rattle.thompson_nfa.proofs.Steps.ErrorLemmas.{handed}
-use Rattle.thompson_nfa.proofs.class.add_ranges.Goals as goal
+use Rattle.thompson_nfa.proofs.class_fragments.class.add_ranges.Goals as goal
 
 pub add_sparse-requires : goal.add_sparse-requires
 add_sparse-requires c = ascends c.args.next c.args.ranges.now _ c.requires c.in_ok-all.ensures.each

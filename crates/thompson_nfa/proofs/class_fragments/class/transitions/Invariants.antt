@@ -1,6 +1,6 @@
 use Rattle.std.proofs.Common.{ℕ, ◌≡◌, ◌<◌, length, get_or, map, take}
 use Rattle.nfa_core.specs.Transitions.{range_of}
-use Rattle.thompson_nfa.proofs.class.transitions.Given as goal
+use Rattle.thompson_nfa.proofs.class_fragments.class.transitions.Given as goal
 
 abbrev pub invariant-loop-range : goal.invariant-loop-range
 invariant-loop-range l = record {

@@ -3,7 +3,7 @@ use Rattle.thompson_nfa.specs.ByteRoom.{at_most}
 use Rattle.thompson_nfa.proofs.Steps.ErrorLemmas.{handed}
 use Rattle.thompson_nfa.proofs.Steps.PlainRoom.{plain_made, plain_quits}
 use Rattle.thompson_nfa.proofs.Classes.ScalarBytes.{ascii_bytes, other_bytes, ascii_takes, other_takes}
-use Rattle.thompson_nfa.proofs.scalar_class.compile_scalars.Goals as goal
+use Rattle.thompson_nfa.proofs.class_fragments.scalar_class.compile_scalars.Goals as goal
 
 pub returns-in_err-ascii-clause-refused : goal.returns-in_err-ascii-clause-refused
 returns-in_err-ascii-clause-refused c = handed _ _ c.in_err-ascii.field-0.0 c.from_residual.ensures.1

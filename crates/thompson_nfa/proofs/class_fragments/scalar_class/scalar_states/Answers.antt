@@ -3,7 +3,7 @@ use Rattle.thompson_nfa.proofs.Steps.PlainRoom.{plain_made, plain_quits}
 use Rattle.std.proofs.Common.{arith}
 use Rattle.thompson_nfa.proofs.Classes.ClassBytes.{plain_bytes, class_shrunk}
 use Rattle.thompson_nfa.proofs.Classes.ScalarBytes.{shared_takes}
-use Rattle.thompson_nfa.proofs.scalar_class.scalar_states.Goals as goal
+use Rattle.thompson_nfa.proofs.class_fragments.scalar_class.scalar_states.Goals as goal
 
 pub returns-in_err-forward-clause-refused : goal.returns-in_err-forward-clause-refused
 returns-in_err-forward-clause-refused c = handed _ _ c.in_err-forward.field-0.0 c.from_residual.ensures.1

@@ -3,7 +3,7 @@ use Rattle.thompson_nfa.specs.ByteRoom.{sequence_bytes}
 use Rattle.thompson_nfa.proofs.Steps.ErrorLemmas.{handed}
 use Rattle.thompson_nfa.proofs.Classes.FollowLemmas.{none_added, still_rising, still_keeps, some_ranges, few_ranges, byte_bounds}
 use Rattle.thompson_nfa.proofs.Classes.FollowLemmas.{after_last, one_added, all_added, one_refused}
-use Rattle.thompson_nfa.proofs.scalar_forward.add_sequences.Goals as goal
+use Rattle.thompson_nfa.proofs.class_fragments.scalar_forward.add_sequences.Goals as goal
 
 pub loop-sequence-init : goal.loop-sequence-init
 loop-sequence-init c =

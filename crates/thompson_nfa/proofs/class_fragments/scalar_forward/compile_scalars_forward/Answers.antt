@@ -3,7 +3,7 @@ use Rattle.thompson_nfa.proofs.Steps.ErrorLemmas.{handed}
 use Rattle.thompson_nfa.proofs.Classes.ClassBytes.{sequences_left}
 use Rattle.thompson_nfa.proofs.Classes.FollowLemmas.{no_range, range_follows, next_range, range_refused, all_compiled, class_made}
 use Rattle.thompson_nfa.proofs.Classes.FollowLemmas.{class_does, class_refused}
-use Rattle.thompson_nfa.proofs.scalar_forward.compile_scalars_forward.Goals as goal
+use Rattle.thompson_nfa.proofs.class_fragments.scalar_forward.compile_scalars_forward.Goals as goal
 
 pub loop-range-init : goal.loop-range-init
 loop-range-init c = (

@@ -4,7 +4,7 @@ use Rattle.thompson_nfa.specs.ByteRoom.{sequence_bytes}
 use Rattle.thompson_nfa.specs.Compiled.{sum_of_bytes}
 use Rattle.thompson_nfa.specs.Utf8Stacks.{left_bytes}
 use Rattle.thompson_nfa.proofs.Classes.FollowLemmas.{RangesTo}
-use Rattle.thompson_nfa.proofs.scalar_forward.compile_scalars_forward.Given as goal
+use Rattle.thompson_nfa.proofs.class_fragments.scalar_forward.compile_scalars_forward.Given as goal
 
 abbrev pub invariant-loop-range : goal.invariant-loop-range
 invariant-loop-range l =

@@ -1,6 +1,6 @@
 use Rattle.std.proofs.Common.{refl}
 use Rattle.thompson_nfa.proofs.Steps.StepLemmas.{added_of}
-use Rattle.thompson_nfa.proofs.scalar_reverse.add_key.Goals as goal
+use Rattle.thompson_nfa.proofs.class_fragments.scalar_reverse.add_key.Goals as goal
 
 pub returns-clause-added : goal.returns-clause-added
 returns-clause-added c = record {

@@ -3,7 +3,7 @@ use Rattle.thompson_nfa.proofs.Classes.SuffixSteps.{ranges_share, last_refused, 
 use Rattle.thompson_nfa.proofs.Classes.SuffixSteps.{way_refused}
 use Rattle.std.proofs.Common.{arith}
 use Rattle.thompson_nfa.proofs.Classes.ClassBytes.{others_long, ranges_weigh}
-use Rattle.thompson_nfa.proofs.scalar_reverse.add_sequence_reverse.Goals as goal
+use Rattle.thompson_nfa.proofs.class_fragments.scalar_reverse.add_sequence_reverse.Goals as goal
 
 pub last_range-requires-clause-ready : goal.last_range-requires-clause-ready
 last_range-requires-clause-ready c = (ranges_share c.in_ok-next.ensures.shared).ready c.requires.ready

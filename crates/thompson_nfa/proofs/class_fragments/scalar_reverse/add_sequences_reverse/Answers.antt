@@ -3,7 +3,7 @@ use Rattle.thompson_nfa.proofs.Steps.ErrorLemmas.{handed}
 use Rattle.thompson_nfa.proofs.Classes.SuffixSteps.{none_met, met_ready, met_capacity, met_there, met_kind, met_rising, met_next}
 use Rattle.thompson_nfa.proofs.Classes.SuffixSteps.{met_refused}
 use Rattle.thompson_nfa.proofs.Classes.ClassBytes.{met_passed}
-use Rattle.thompson_nfa.proofs.scalar_reverse.add_sequences_reverse.Goals as goal
+use Rattle.thompson_nfa.proofs.class_fragments.scalar_reverse.add_sequences_reverse.Goals as goal
 
 pub loop-sequence-init : goal.loop-sequence-init
 loop-sequence-init c = none_met _ _ _ _ c.args.first c.args.last _ (c.into_iter-sequence-iterator.ensures.into_iter_gives

@@ -3,7 +3,7 @@ use Rattle.thompson_nfa.proofs.Steps.ErrorLemmas.{handed}
 use Rattle.thompson_nfa.proofs.Classes.ClassBytes.{sequences_left, sequences_weigh}
 use Rattle.thompson_nfa.proofs.Classes.ScalarLemmas.{range_refused, ranges_made, ranges_do}
 use Rattle.thompson_nfa.proofs.Classes.SuffixRanges.{reverse_begun, reverse_next}
-use Rattle.thompson_nfa.proofs.scalar_reverse.compile_scalars_reverse.Goals as goal
+use Rattle.thompson_nfa.proofs.class_fragments.scalar_reverse.compile_scalars_reverse.Goals as goal
 
 pub loop-range-init : goal.loop-range-init
 loop-range-init c = (

@@ -3,7 +3,7 @@ use Rattle.hir_core.specs.BySequences.{sequences_of}
 use Rattle.thompson_nfa.specs.ByteRoom.{sequence_bytes}
 use Rattle.thompson_nfa.specs.Compiled.{sum_of_bytes}
 use Rattle.thompson_nfa.proofs.Classes.SuffixRanges.{RangesReverse}
-use Rattle.thompson_nfa.proofs.scalar_reverse.compile_scalars_reverse.Given as goal
+use Rattle.thompson_nfa.proofs.class_fragments.scalar_reverse.compile_scalars_reverse.Given as goal
 
 abbrev pub invariant-loop-range : goal.invariant-loop-range
 invariant-loop-range l =

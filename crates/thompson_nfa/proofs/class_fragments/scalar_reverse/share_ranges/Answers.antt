@@ -4,7 +4,7 @@ use Rattle.thompson_nfa.proofs.Steps.ErrorLemmas.{handed}
 use Rattle.thompson_nfa.proofs.Classes.ScalarLemmas.{rising_at}
 use Rattle.thompson_nfa.proofs.Classes.SuffixSteps.{none_shared, ready_up_to, capacity_up_to, range_refused, next_shared, places_up_to}
 use Rattle.thompson_nfa.proofs.Classes.ClassBytes.{range_passed}
-use Rattle.thompson_nfa.proofs.scalar_reverse.share_ranges.Goals as goal
+use Rattle.thompson_nfa.proofs.class_fragments.scalar_reverse.share_ranges.Goals as goal
 
 pub loop-place-init : goal.loop-place-init
 loop-place-init c = none_shared _ _ c.args.end (map bytes_of c.args.ranges.now)

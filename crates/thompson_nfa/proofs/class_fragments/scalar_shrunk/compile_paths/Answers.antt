@@ -12,7 +12,7 @@ use Rattle.thompson_nfa.proofs.Classes.TriePathLemmas.{path_some, path_few, path
 use Rattle.thompson_nfa.proofs.Classes.TriePathLemmas.{paths_counted}
 use Rattle.thompson_nfa.proofs.Classes.ShrunkLemmas.{quits_more}
 use Rattle.thompson_nfa.proofs.Classes.ClassBytes.{paths_left}
-use Rattle.thompson_nfa.proofs.scalar_shrunk.compile_paths.Goals as goal
+use Rattle.thompson_nfa.proofs.class_fragments.scalar_shrunk.compile_paths.Goals as goal
 
 pub add-requires-clause-some : goal.add-requires-clause-some
 add-requires-clause-some c = path_some c.args.paths.now c.loop-path.path-index c.path-item.result c.deref.result.now c.loop-path-test.true

@@ -4,7 +4,7 @@ use Rattle.thompson_nfa.specs.Compiled.{sum_of_bytes}
 use Rattle.thompson_nfa.specs.RangeWalks.{paths_of}
 use Rattle.thompson_nfa.specs.Utf8Compiles.{IsCompiling}
 use Rattle.thompson_nfa.specs.Utf8Stacks.{left_bytes}
-use Rattle.thompson_nfa.proofs.scalar_shrunk.compile_paths.Given as goal
+use Rattle.thompson_nfa.proofs.class_fragments.scalar_shrunk.compile_paths.Given as goal
 
 abbrev pub invariant-loop-path : goal.invariant-loop-path
 invariant-loop-path l =

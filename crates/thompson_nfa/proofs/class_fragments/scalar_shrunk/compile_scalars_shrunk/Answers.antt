@@ -4,7 +4,7 @@ use Rattle.thompson_nfa.specs.RangeWalks.{paths_of}
 use Rattle.thompson_nfa.proofs.Steps.ErrorLemmas.{handed}
 use Rattle.thompson_nfa.proofs.Classes.ShrunkLemmas.{paths_short, shrunk_made, shrunk_does, shrunk_quits}
 use Rattle.thompson_nfa.proofs.Classes.ClassBytes.{shrunk_bytes}
-use Rattle.thompson_nfa.proofs.scalar_shrunk.compile_scalars_shrunk.Goals as goal
+use Rattle.thompson_nfa.proofs.class_fragments.scalar_shrunk.compile_scalars_shrunk.Goals as goal
 
 pub compile_paths-requires-clause-short : goal.compile_paths-requires-clause-short
 compile_paths-requires-clause-short c =

@@ -1,5 +1,5 @@
 use Rattle.std.proofs.Common.{◌≡◌, None, replicate}
-use Rattle.thompson_nfa.proofs.slots.empty_slots.Given as goal
+use Rattle.thompson_nfa.proofs.class_fragments.slots.empty_slots.Given as goal
 
 abbrev pub invariant-loop : goal.invariant-loop
 invariant-loop g l = l.slots.items ≡ replicate l.counter None

@@ -6,7 +6,7 @@ use Rattle.thompson_nfa.proofs.Classes.PathLemmas.{sequence_turned, sequence_fir
 use Rattle.thompson_nfa.proofs.Classes.PathLemmas.{first_quit, turned_quit}
 use Rattle.thompson_nfa.specs.Utf8Stacks.{left_bytes}
 use Rattle.thompson_nfa.proofs.Classes.SequenceBytes.{first_weighs, turned_weighs, no_memory, left_least}
-use Rattle.thompson_nfa.proofs.utf8_compiler.add.Goals as goal
+use Rattle.thompson_nfa.proofs.class_fragments.utf8_compiler.add.Goals as goal
 
 pub returns-then-is_empty-clause-added : goal.returns-then-is_empty-clause-added
 returns-then-is_empty-clause-added c = λ old qs i.

@@ -2,7 +2,7 @@ use Rattle.std.proofs.Common.{refl, ◌∙◌, arith}
 use Rattle.thompson_nfa.proofs.Steps.ErrorLemmas.{handed}
 use Rattle.thompson_nfa.proofs.Classes.StackLemmas.{none_popped, one_popped, pops_refused}
 use Rattle.thompson_nfa.proofs.Classes.SequenceBytes.{pops_weigh}
-use Rattle.thompson_nfa.proofs.utf8_compiler.compile_from.Goals as goal
+use Rattle.thompson_nfa.proofs.class_fragments.utf8_compiler.compile_from.Goals as goal
 
 pub loop-count-init : goal.loop-count-init
 loop-count-init c = (none_popped _ _ _ c.args.from _ c.requires.rising c.requires.keeps, refl)

@@ -2,7 +2,7 @@ use Rattle.std.proofs.Common.{refl, arith, ◌<◌, length}
 use Rattle.std.proofs.lemmas.List.{length-map}
 use Rattle.hir_core.specs.Sequences.{bytes_of}
 use Rattle.thompson_nfa.proofs.Classes.StackLemmas.{other_inside, nodes_differ, nodes_agree}
-use Rattle.thompson_nfa.proofs.utf8_compiler.first_difference.Goals as goal
+use Rattle.thompson_nfa.proofs.class_fragments.utf8_compiler.first_difference.Goals as goal
 
 pub bounds-ranges-i : goal.bounds-ranges-i
 bounds-ranges-i c =

@@ -1,6 +1,6 @@
 use Rattle.std.proofs.Common.{refl, ◌<◌, length}
 use Rattle.thompson_nfa.proofs.Classes.StackLemmas.{push_more}
-use Rattle.thompson_nfa.proofs.utf8_compiler.push_nodes.Goals as goal
+use Rattle.thompson_nfa.proofs.class_fragments.utf8_compiler.push_nodes.Goals as goal
 
 pub loop-i-preserved : goal.loop-i-preserved
 loop-i-preserved c =

@@ -1,7 +1,7 @@
 use Rattle.std.proofs.Common.{◌≡◌, ◌++◌, map, drop}
 use Rattle.hir_core.specs.Sequences.{bytes_of}
 use Rattle.thompson_nfa.specs.Utf8Stacks.{fresh}
-use Rattle.thompson_nfa.proofs.utf8_compiler.push_nodes.Given as goal
+use Rattle.thompson_nfa.proofs.class_fragments.utf8_compiler.push_nodes.Given as goal
 
 abbrev pub invariant-loop-i : goal.invariant-loop-i
 invariant-loop-i l =

@@ -1,5 +1,5 @@
 use Rattle.thompson_nfa.proofs.Walks.DirectionLemmas.{same_patterns, same_anchored, same_unanchored}
-use Rattle.thompson_nfa.proofs.compile_laws.both_directions_find_the_same_spans.Goals as goal
+use Rattle.thompson_nfa.proofs.laws.compile_laws.both_directions_find_the_same_spans.Goals as goal
 
 pub returns-clause-patterns : goal.returns-clause-patterns
 returns-clause-patterns c =

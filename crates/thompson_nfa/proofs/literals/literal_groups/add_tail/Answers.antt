@@ -1,7 +1,7 @@
 use Rattle.std.proofs.Common.{refl}
 use Rattle.thompson_nfa.specs.LiteralGroups.{strings_of_groups}
 use Rattle.thompson_nfa.proofs.LiteralTries.LiteralGroupLemmas.{pushed_at, inserted_at}
-use Rattle.thompson_nfa.proofs.literal_groups.add_tail.Goals as goal
+use Rattle.thompson_nfa.proofs.literals.literal_groups.add_tail.Goals as goal
 
 pub returns-then-is_at : goal.returns-then-is_at
 returns-then-is_at c = λ before are. pushed_at c.args.byte c.args.tail.now c.args.bytes.now.items

@@ -1,7 +1,7 @@
 use Rattle.std.proofs.Common.{◌+◌, ap, ◌∙◌, arith}
 use Rattle.thompson_nfa.specs.LiteralGroups.{texts, strings_of_groups, edges_by}
 use Rattle.thompson_nfa.proofs.LiteralTries.LiteralGroupLemmas.{chunk_adds, chunk_holds, group_count, groups_joined}
-use Rattle.thompson_nfa.proofs.literal_groups.chunk.Goals as goal
+use Rattle.thompson_nfa.proofs.literals.literal_groups.chunk.Goals as goal
 
 pub returns-clause-adds : goal.returns-clause-adds
 returns-clause-adds c = chunk_adds c.add_strings.new.bytes.items (strings_of_groups (λ g. g.items) c.args.groups.now.items)

@@ -2,7 +2,7 @@ use Rattle.std.proofs.Common.{arith, ap, ◌∙◌, map, refl}
 use Rattle.std.proofs.lemmas.List.{map-append}
 use Rattle.thompson_nfa.specs.LiteralGroups.{texts}
 use Rattle.thompson_nfa.proofs.LiteralTries.LiteralNodeLemmas.{no_item, match_turn, chunk_turn}
-use Rattle.thompson_nfa.proofs.literal_nodes.items.Goals as goal
+use Rattle.thompson_nfa.proofs.literals.literal_nodes.items.Goals as goal
 
 pub loop-rest-init : goal.loop-rest-init
 loop-rest-init c = no_item c.args.first _ _ _ _ (ap (λ xs. map (λ x. x.items) xs) c.new-items.ensures.items) refl

@@ -1,7 +1,7 @@
 use Rattle.std.proofs.Common.{arith}
 use Rattle.thompson_nfa.specs.LiteralGroups.{texts}
 use Rattle.thompson_nfa.proofs.LiteralTries.LiteralLaidLemmas.{stem_split, rest_long}
-use Rattle.thompson_nfa.proofs.literal_nodes.lay.Goals as goal
+use Rattle.thompson_nfa.proofs.literals.literal_nodes.lay.Goals as goal
 
 pub items-requires-clause-some : goal.items-requires-clause-some
 items-requires-clause-some c =

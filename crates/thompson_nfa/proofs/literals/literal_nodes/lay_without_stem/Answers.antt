@@ -1,6 +1,6 @@
 use Rattle.thompson_nfa.specs.LiteralGroups.{texts}
 use Rattle.thompson_nfa.proofs.LiteralTries.LiteralLaidLemmas.{no_stem}
-use Rattle.thompson_nfa.proofs.literal_nodes.lay_without_stem.Goals as goal
+use Rattle.thompson_nfa.proofs.literals.literal_nodes.lay_without_stem.Goals as goal
 
 pub returns : goal.returns
 returns c = record {

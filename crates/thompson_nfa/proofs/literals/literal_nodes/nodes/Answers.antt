@@ -4,7 +4,7 @@ use Rattle.thompson_nfa.specs.LiteralGroups.{texts, strings_of_groups}
 use Rattle.thompson_nfa.specs.LiteralLaid.{node_value}
 use Rattle.thompson_nfa.proofs.LiteralTries.LiteralGroupLemmas.{group_count}
 use Rattle.thompson_nfa.proofs.LiteralTries.LiteralLaidLemmas.{held_some, next_held}
-use Rattle.thompson_nfa.proofs.literal_nodes.nodes.Goals as goal
+use Rattle.thompson_nfa.proofs.literals.literal_nodes.nodes.Goals as goal
 
 pub lay_next-requires-clause-some : goal.lay_next-requires-clause-some
 lay_next-requires-clause-some c =

@@ -1,7 +1,7 @@
 use Rattle.std.proofs.Common.{◌+◌, ap, ◌∙◌, sym, map, arith}
 use Rattle.std.proofs.lemmas.List.{drop-map, drop-set-lt}
 use Rattle.thompson_nfa.specs.LiteralGroups.{texts}
-use Rattle.thompson_nfa.proofs.literal_nodes.take_group.Goals as goal
+use Rattle.thompson_nfa.proofs.literals.literal_nodes.take_group.Goals as goal
 
 pub returns-clause-later : goal.returns-clause-later
 returns-clause-later c =

@@ -2,7 +2,7 @@ use Rattle.std.proofs.Common.{◌+◌, ◌*◌, length}
 use Rattle.thompson_nfa.proofs.Steps.ErrorLemmas.{handed}
 use Rattle.thompson_nfa.proofs.LiteralTries.LiteralStateLemmas.{chunk_ascends, bytes_of_chunk}
 use Rattle.thompson_nfa.proofs.Steps.StepLemmas.{add_refused}
-use Rattle.thompson_nfa.proofs.literal_states.add_chunk.Goals as goal
+use Rattle.thompson_nfa.proofs.literals.literal_states.add_chunk.Goals as goal
 
 pub add_sparse-requires : goal.add_sparse-requires
 add_sparse-requires c = chunk_ascends c.args.names.now c.args.edges.now _ c.requires.ascending c.in_ok-all.ensures

@@ -3,7 +3,7 @@ use Rattle.thompson_nfa.proofs.Steps.ErrorLemmas.{handed}
 use Rattle.thompson_nfa.proofs.LiteralTries.LiteralStateLemmas.{no_items, row_chunk, row_added, row_refused}
 use Rattle.thompson_nfa.proofs.LiteralTries.LiteralStateLemmas.{row_passed, rows_one, rows_union}
 use Rattle.thompson_nfa.proofs.LiteralTries.LiteralStateLemmas.{rows_refused, rows_passed}
-use Rattle.thompson_nfa.proofs.literal_states.add_node.Goals as goal
+use Rattle.thompson_nfa.proofs.literals.literal_states.add_node.Goals as goal
 
 pub loop-item-init : goal.loop-item-init
 loop-item-init c = (no_items _ _ _ _ _ refl c.new-ways.ensures.items, omega arith)

@@ -1,6 +1,6 @@
 use Rattle.std.proofs.Common.{[], arith}
 use Rattle.thompson_nfa.proofs.LiteralTries.LiteralStemLemmas.{begins_long_at}
-use Rattle.thompson_nfa.proofs.literal_stems.behind_stem.Goals as goal
+use Rattle.thompson_nfa.proofs.literals.literal_stems.behind_stem.Goals as goal
 
 pub slice_bounds-push-count : goal.slice_bounds-push-count
 slice_bounds-push-count c = begins_long_at c.args.stem.now c.args.strings.now c.loop-string.string-index (record {

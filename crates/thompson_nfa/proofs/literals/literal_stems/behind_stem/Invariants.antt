@@ -1,7 +1,7 @@
 use Rattle.std.proofs.Common.{◌≡◌, ◌++◌, drop, length}
 use Rattle.thompson_nfa.specs.LiteralGroups.{texts}
 use Rattle.thompson_nfa.specs.LiteralStems.{without_first}
-use Rattle.thompson_nfa.proofs.literal_stems.behind_stem.Given as goal
+use Rattle.thompson_nfa.proofs.literals.literal_stems.behind_stem.Given as goal
 
 abbrev pub invariant-loop-string : goal.invariant-loop-string
 invariant-loop-string l =

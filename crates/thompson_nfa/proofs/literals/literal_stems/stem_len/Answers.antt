@@ -1,7 +1,7 @@
 use Rattle.std.proofs.Common.{refl, arith}
 use Rattle.thompson_nfa.specs.LiteralGroups.{texts}
 use Rattle.thompson_nfa.proofs.LiteralTries.LiteralStemLemmas.{begin_none, stem_more}
-use Rattle.thompson_nfa.proofs.literal_stems.stem_len.Goals as goal
+use Rattle.thompson_nfa.proofs.literals.literal_stems.stem_len.Goals as goal
 
 pub loop-len-init : goal.loop-len-init
 loop-len-init c = (omega arith, begin_none (texts c.args.strings.now))

@@ -1,7 +1,7 @@
 use Rattle.std.proofs.Common.{◌≤◌, ◌-◌, length, take}
 use Rattle.thompson_nfa.specs.LiteralGroups.{texts}
 use Rattle.thompson_nfa.specs.LiteralStems.{BeginAll}
-use Rattle.thompson_nfa.proofs.literal_stems.stem_len.Given as goal
+use Rattle.thompson_nfa.proofs.literals.literal_stems.stem_len.Given as goal
 
 abbrev pub invariant-loop-len : goal.invariant-loop-len
 invariant-loop-len l = (l.len ≤ length l.first) × BeginAll (take l.len l.first) (texts l.strings)

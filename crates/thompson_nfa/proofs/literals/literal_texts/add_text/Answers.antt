@@ -1,6 +1,6 @@
 use Rattle.std.proofs.Common.{refl, arith, length}
 use Rattle.thompson_nfa.proofs.LiteralTries.LiteralTextLemmas.{text_begun, text_more}
-use Rattle.thompson_nfa.proofs.literal_texts.add_text.Goals as goal
+use Rattle.thompson_nfa.proofs.literals.literal_texts.add_text.Goals as goal
 
 pub loop-i-init : goal.loop-i-init
 loop-i-init c = (text_begun c.args.builder.now c.args.next c.args.text.now (length c.args.text.now) (omega arith), omega arith)

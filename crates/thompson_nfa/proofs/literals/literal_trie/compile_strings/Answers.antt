@@ -7,7 +7,7 @@ use Rattle.thompson_nfa.proofs.LiteralTries.LiteralTrieLemmas.{turn_some, turn_f
 use Rattle.thompson_nfa.proofs.LiteralTries.LiteralTrieLemmas.{turn_chunks, turn_refused, turn_passed}
 use Rattle.thompson_nfa.proofs.LiteralTries.LiteralTrieLemmas.{turn_stem_refused, turn_stem_passed, turn_compiled}
 use Rattle.thompson_nfa.proofs.LiteralTries.LiteralTrieLemmas.{all_made, all_does}
-use Rattle.thompson_nfa.proofs.literal_trie.compile_strings.Goals as goal
+use Rattle.thompson_nfa.proofs.literals.literal_trie.compile_strings.Goals as goal
 
 pub add_node-requires-clause-some : goal.add_node-requires-clause-some
 add_node-requires-clause-some c =

@@ -1,6 +1,6 @@
 -- Each sequence is the next of what is left.
 use Rattle.thompson_nfa.proofs.Classes.ClassTrieLemmas.{next_ranges, next_turned, met_turned, next_gained}
-use Rattle.thompson_nfa.proofs.class_trie.insert_range.Goals as goal
+use Rattle.thompson_nfa.proofs.range_tries.class_trie.insert_range.Goals as goal
 
 pub insert_turned-requires-clause-ordered : goal.insert_turned-requires-clause-ordered
 insert_turned-requires-clause-ordered c = next_ranges _ _ _ _ c.args.first c.args.last _ c.loop-sequence.invariant c.in-Some.ensures.steps

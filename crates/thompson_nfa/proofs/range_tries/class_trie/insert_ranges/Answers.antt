@@ -1,7 +1,7 @@
 -- The ranges that were met are in the trie.
 use Rattle.std.proofs.Common.{take}
 use Rattle.thompson_nfa.proofs.Classes.ClassTrieLemmas.{class_spelled, class_next}
-use Rattle.thompson_nfa.proofs.class_trie.insert_ranges.Goals as goal
+use Rattle.thompson_nfa.proofs.range_tries.class_trie.insert_ranges.Goals as goal
 
 pub insert_range-requires : goal.insert_range-requires
 insert_range-requires c = class_spelled _ (take c.loop-range.range-index c.args.ranges.now) c.loop-range.invariant

@@ -4,7 +4,7 @@ use Rattle.hir_core.specs.Sequences.{bytes_of}
 use Rattle.thompson_nfa.specs.RangeTries.{AreRanges, IsApart}
 use Rattle.thompson_nfa.proofs.Classes.ClassTrieLemmas.{ranges_turned}
 use Rattle.thompson_nfa.proofs.Classes.TurnedStrings.{turned_apart}
-use Rattle.thompson_nfa.proofs.class_trie.insert_turned.Goals as goal
+use Rattle.thompson_nfa.proofs.range_tries.class_trie.insert_turned.Goals as goal
 
 pub insert-requires-clause-ordered : goal.insert-requires-clause-ordered
 insert-requires-clause-ordered c =

@@ -1,7 +1,7 @@
 -- Each edge leads to an earlier node, and its copy is next.
 use Rattle.std.proofs.Common.{◌<◌, length, get_or, arith, subst, refl, sym, ap, ◌∙◌}
-use Rattle.thompson_nfa.specs.declared.trie_nodes.Next.{Next}
-use Rattle.thompson_nfa.specs.declared.trie_nodes.Next.TheVariants.{Nothing}
+use Rattle.thompson_nfa.specs.declared.range_tries.trie_nodes.Next.{Next}
+use Rattle.thompson_nfa.specs.declared.range_tries.trie_nodes.Next.TheVariants.{Nothing}
 use Rattle.thompson_nfa.specs.TrieNodes.{following, IsInside}
 use Rattle.thompson_nfa.specs.RangeCovers.{edge_of}
 use Rattle.thompson_nfa.specs.RangeWalks.{depth_of}
@@ -9,7 +9,7 @@ use Rattle.thompson_nfa.proofs.Tries.NodeLemmas.{inside_more}
 use Rattle.thompson_nfa.proofs.Tries.WalkLemmas.{edge_inside, depth_falls}
 use Rattle.thompson_nfa.proofs.Tries.NodeCopyLemmas.{copy_found, copying_next, copied_rise, copied_later, copied_inside, copied_same}
 use Rattle.thompson_nfa.proofs.Tries.NodeCopyLemmas.{copied_names}
-use Rattle.thompson_nfa.proofs.range_copy.+copy_below.Goals as goal
+use Rattle.thompson_nfa.proofs.range_tries.range_copy.+copy_below.Goals as goal
 
 pub returns-in-Node-index-clause-inside : goal.returns-in-Node-index-clause-inside
 returns-in-Node-index-clause-inside t c =

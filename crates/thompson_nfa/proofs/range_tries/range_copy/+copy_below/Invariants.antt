@@ -1,7 +1,7 @@
 use Rattle.std.proofs.Common.{take}
 use Rattle.thompson_nfa.specs.RangeWalks.{depth_of}
 use Rattle.thompson_nfa.proofs.Tries.NodeCopyLemmas.{IsCopying}
-use Rattle.thompson_nfa.proofs.range_copy.+copy_below.Given as goal
+use Rattle.thompson_nfa.proofs.range_tries.range_copy.+copy_below.Given as goal
 
 abbrev pub decreases-copy_below : goal.decreases-copy_below
 decreases-copy_below l = depth_of l.next

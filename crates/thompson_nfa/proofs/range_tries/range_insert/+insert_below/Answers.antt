@@ -2,8 +2,8 @@
 use Rattle.std.proofs.Common.{◌≡◌, ◌+◌, length, map, List, get_or, arith, refl, sym, subst}
 use Rattle.std.proofs.lemmas.Bool.{false≢true}
 use Rattle.hir_core.specs.Sequences.{bytes_of}
-use Rattle.thompson_nfa.specs.declared.trie_nodes.Edge.{Edge}
-use Rattle.thompson_nfa.specs.declared.trie_nodes.Next.TheVariants.{Nothing}
+use Rattle.thompson_nfa.specs.declared.range_tries.trie_nodes.Edge.{Edge}
+use Rattle.thompson_nfa.specs.declared.range_tries.trie_nodes.Next.TheVariants.{Nothing}
 use Rattle.thompson_nfa.specs.TrieNodes.{following}
 use Rattle.thompson_nfa.specs.TrieSteps.{IsCover}
 use Rattle.thompson_nfa.specs.RangeCovers.{edge_of}
@@ -11,8 +11,8 @@ use Rattle.thompson_nfa.proofs.Tries.NodeLemmas.{inside_more}
 use Rattle.thompson_nfa.proofs.Tries.InsertLemmas.{with_none, nil_of_length, read_itself, rest_apart, first_ok, next_kept, next_at}
 use Rattle.thompson_nfa.proofs.Tries.InsertLemmas.{later_itself}
 use Rattle.thompson_nfa.proofs.Tries.InsertLemmas.{inserting_within, inserting_beside, edges_rise, with_pushed_if}
-use Rattle.thompson_nfa.proofs.range_insert.+insert_below.Goals as goal
-use Rattle.thompson_nfa.proofs.range_insert.+insert_below.Goals.{then-is_within+in_ok-next, else-is_within}
+use Rattle.thompson_nfa.proofs.range_tries.range_insert.+insert_below.Goals as goal
+use Rattle.thompson_nfa.proofs.range_tries.range_insert.+insert_below.Goals.{then-is_within+in_ok-next, else-is_within}
 
 pub returns-in_default-clause-more : goal.returns-in_default-clause-more
 returns-in_default-clause-more t c =

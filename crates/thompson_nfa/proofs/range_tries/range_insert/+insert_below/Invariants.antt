@@ -1,7 +1,7 @@
 use Rattle.std.proofs.Common.{length, ◌+◌, map, take}
 use Rattle.hir_core.specs.Sequences.{bytes_of}
 use Rattle.thompson_nfa.proofs.Tries.InsertLemmas.{IsInserting}
-use Rattle.thompson_nfa.proofs.range_insert.+insert_below.Given as goal
+use Rattle.thompson_nfa.proofs.range_tries.range_insert.+insert_below.Given as goal
 
 abbrev pub decreases-insert_below : goal.decreases-insert_below
 decreases-insert_below l = length l.ranges.now

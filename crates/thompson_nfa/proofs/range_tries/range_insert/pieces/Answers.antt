@@ -1,11 +1,11 @@
 -- A node's edges are divided.
 use Rattle.std.proofs.Common.{◌<◌, length, IfOk, arith, subst, sym, ◌+◌}
-use Rattle.thompson_nfa.specs.declared.trie_nodes.Next.{Next}
+use Rattle.thompson_nfa.specs.declared.range_tries.trie_nodes.Next.{Next}
 use Rattle.thompson_nfa.specs.TrieNodes.{IsInside}
 use Rattle.thompson_nfa.specs.TrieSteps.{IsCover}
 use Rattle.std.proofs.lemmas.Result.{IfOk-weaker}
 use Rattle.thompson_nfa.proofs.Tries.InsertLemmas.{cover_of_node}
-use Rattle.thompson_nfa.proofs.range_insert.pieces.Goals as goal
+use Rattle.thompson_nfa.proofs.range_tries.range_insert.pieces.Goals as goal
 
 pub returns-in-Node : goal.returns-in-Node
 returns-in-Node c =

@@ -1,13 +1,13 @@
 -- Each edge leads to an earlier node, and what it emits is next in what is left.
 use Rattle.std.proofs.Common.{◌<◌, length, get_or, arith, subst, ap, ◌∙◌}
-use Rattle.thompson_nfa.specs.declared.trie_nodes.Next.{Next}
-use Rattle.thompson_nfa.specs.declared.trie_nodes.Next.TheVariants.{Nothing}
+use Rattle.thompson_nfa.specs.declared.range_tries.trie_nodes.Next.{Next}
+use Rattle.thompson_nfa.specs.declared.range_tries.trie_nodes.Next.TheVariants.{Nothing}
 use Rattle.thompson_nfa.specs.TrieNodes.{IsInside}
 use Rattle.thompson_nfa.specs.RangeCovers.{edge_of}
 use Rattle.thompson_nfa.specs.RangeWalks.{paths_of, depth_of}
 use Rattle.thompson_nfa.proofs.Tries.NodeLemmas.{inside_more}
 use Rattle.thompson_nfa.proofs.Tries.WalkLemmas.{walk_step, edge_inside, depth_falls}
-use Rattle.thompson_nfa.proofs.range_walk.+emit.Goals as goal
+use Rattle.thompson_nfa.proofs.range_tries.range_walk.+emit.Goals as goal
 
 pub emit-requires : goal.emit-requires
 emit-requires t c =

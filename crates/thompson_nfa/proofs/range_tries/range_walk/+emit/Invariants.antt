@@ -2,7 +2,7 @@ use Rattle.std.proofs.Common.{◌≡◌, ◌++◌, map, drop}
 use Rattle.hir_core.specs.Sequences.{bytes_of}
 use Rattle.thompson_nfa.specs.TrieNodes.{along}
 use Rattle.thompson_nfa.specs.RangeWalks.{paths_of, path_then, depth_of}
-use Rattle.thompson_nfa.proofs.range_walk.+emit.Given as goal
+use Rattle.thompson_nfa.proofs.range_tries.range_walk.+emit.Given as goal
 
 abbrev pub decreases-emit : goal.decreases-emit
 decreases-emit l = depth_of l.next

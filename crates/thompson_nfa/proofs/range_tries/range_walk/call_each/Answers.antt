@@ -1,7 +1,7 @@
 -- Each call comes before those that are left.
 use Rattle.std.proofs.Common.{of_calls, subst, Ok, Err}
 use Rattle.thompson_nfa.proofs.Tries.CallLemmas.{calls_more, calls_up_to, calls_refused}
-use Rattle.thompson_nfa.proofs.range_walk.call_each.Goals as goal
+use Rattle.thompson_nfa.proofs.range_tries.range_walk.call_each.Goals as goal
 
 pub loop-path-preserved : goal.loop-path-preserved
 loop-path-preserved g c =

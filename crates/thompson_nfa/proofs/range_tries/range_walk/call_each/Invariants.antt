@@ -1,7 +1,7 @@
 use Rattle.std.proofs.Common.{length}
 use Rattle.thompson_nfa.specs.RangeWalks.{paths_of}
 use Rattle.thompson_nfa.specs.RangeCalls.{CallsAll, CallsUpTo}
-use Rattle.thompson_nfa.proofs.range_walk.call_each.Given as goal
+use Rattle.thompson_nfa.proofs.range_tries.range_walk.call_each.Given as goal
 
 abbrev pub invariant-loop-path : goal.invariant-loop-path
 invariant-loop-path g l = record {

@@ -1,7 +1,7 @@
 -- New slots hold nothing, and so do those of an earlier version.
 use Rattle.std.proofs.Common.{◌≡◌, length, replicate, None, ◌∙◌, ap, arith}
 use Rattle.thompson_nfa.proofs.Classes.SlotLemmas.{slots_made, slots_past, slots_forgotten}
-use Rattle.thompson_nfa.proofs.slots.Slots.clear.Goals as goal
+use Rattle.thompson_nfa.proofs.class_fragments.slots.Slots.clear.Goals as goal
 
 pub returns-in_ok-self-inside-clause-ok : goal.returns-in_ok-self-inside-clause-ok
 returns-in_ok-self-inside-clause-ok g c =

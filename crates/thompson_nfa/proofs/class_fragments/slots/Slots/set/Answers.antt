@@ -1,6 +1,6 @@
 -- A slot of the table's own version holds what is put into it.
 use Rattle.thompson_nfa.proofs.Classes.SlotLemmas.{slots_set}
-use Rattle.thompson_nfa.proofs.slots.Slots.set.Goals as goal
+use Rattle.thompson_nfa.proofs.class_fragments.slots.Slots.set.Goals as goal
 
 pub returns : goal.returns
 returns g c =

@@ -2,7 +2,7 @@
 use Rattle.std.proofs.Common.{ap, ◌∙◌, alloc_error}
 use Rattle.thompson_nfa.specs.RangeWalks.{paths_of}
 use Rattle.thompson_nfa.proofs.Tries.CallLemmas.{calls_all_if, calls_up_to_if}
-use Rattle.thompson_nfa.proofs.range_trie.RangeTrie.iter.Goals as goal
+use Rattle.thompson_nfa.proofs.range_tries.range_trie.RangeTrie.iter.Goals as goal
 
 pub returns-clause-ok : goal.returns-clause-ok
 returns-clause-ok g c =

@@ -2,7 +2,7 @@
 use Rattle.std.proofs.Common.{arith}
 use Rattle.std.proofs.lemmas.Grind.{common_steps}
 use Rattle.thompson_nfa.proofs.Tries.NodeLemmas.{node_count, row_emits, row_inside, row_rises}
-use Rattle.thompson_nfa.proofs.trie_nodes.Nodes.edges.Goals as goal
+use Rattle.thompson_nfa.proofs.range_tries.trie_nodes.Nodes.edges.Goals as goal
 
 pub index-requires : goal.index-requires
 index-requires c =

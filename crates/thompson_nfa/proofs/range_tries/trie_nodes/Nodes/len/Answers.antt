@@ -1,7 +1,7 @@
 use Rattle.std.proofs.Common.{arith}
 use Rattle.std.proofs.lemmas.Grind.{common_steps}
 use Rattle.thompson_nfa.proofs.Tries.NodeLemmas.{node_count}
-use Rattle.thompson_nfa.proofs.trie_nodes.Nodes.len.Goals as goal
+use Rattle.thompson_nfa.proofs.range_tries.trie_nodes.Nodes.len.Goals as goal
 
 pub returns : goal.returns
 returns c =

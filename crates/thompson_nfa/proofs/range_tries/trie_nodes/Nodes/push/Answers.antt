@@ -3,9 +3,9 @@ use Rattle.std.proofs.Common.{◌≡◌, ℕ, [], length, sym, ap, ◌∙◌, su
 use Rattle.std.proofs.lemmas.Grind.{common_steps}
 use Rattle.std.proofs.lemmas.List.{map-append}
 use Rattle.thompson_nfa.specs.TrieNodes.{AreInside}
-use Rattle.thompson_nfa.specs.declared.trie_nodes.Next.TheVariants.{Node}
+use Rattle.thompson_nfa.specs.declared.range_tries.trie_nodes.Next.TheVariants.{Node}
 use Rattle.thompson_nfa.proofs.Tries.NodeLemmas.{nodes_push, emitted_push, length_emitted, rows_of, node_count}
-use Rattle.thompson_nfa.proofs.trie_nodes.Nodes.push.Goals as goal
+use Rattle.thompson_nfa.proofs.range_tries.trie_nodes.Nodes.push.Goals as goal
 
 pub invariant_of-self-2 : goal.invariant_of-self-2
 invariant_of-self-2 c =
