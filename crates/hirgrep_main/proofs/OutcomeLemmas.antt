@@ -4,7 +4,7 @@ use Rattle.std.specs.Prelude.{Result, Ok, Err}
 use Rattle.json_events.specs.declared.stats.Stats.{Stats}
 use Rattle.line_search.specs.declared.fault.Fault.{Fault}
 use Rattle.grep_core.specs.declared.output_options.Print.{Print}
-use Rattle.hirgrep_main.specs.declared.outcome.Outcome.{Outcome}
+use Rattle.hirgrep_main.specs.declared.results.outcome.Outcome.{Outcome}
 use Rattle.hirgrep_main.specs.Decisions.{counted, prints_nothing}
 use Rattle.hirgrep_main.specs.Outcomes.{Continues, after_search, is_of_output, with_failure, with_totals}
 use Rattle.hirgrep_main.specs.Walking.{Tries}

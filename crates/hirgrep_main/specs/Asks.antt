@@ -15,16 +15,16 @@ use Rattle.grep_core.specs.declared.output_options.OutputOptions.{OutputOptions}
 use Rattle.hirgrep_main.specs.Binaries.{binary_by}
 use Rattle.hirgrep_main.specs.Readings.{dot_matches_feeds, most_given, reading_given}
 use Rattle.hirgrep_main.specs.SmartCase.{ignores_case}
-use Rattle.hirgrep_main.specs.declared.asked.Asked.{Asked}
-use Rattle.hirgrep_main.specs.declared.binary.Binary.{Binary}
-use Rattle.hirgrep_main.specs.declared.binary.Binary.TheVariants.{AsText}
-use Rattle.hirgrep_main.specs.declared.asked.Devices.{Devices}
-use Rattle.hirgrep_main.specs.declared.asked.Devices.TheVariants.{ReadAll, ReadNamed, SkipAll}
-use Rattle.hirgrep_main.specs.declared.asked.Directories.{Directories}
-use Rattle.hirgrep_main.specs.declared.asked.Directories.TheVariants.{Reject, Recurse, Skip}
-use Rattle.hirgrep_main.specs.declared.asked.Names.{Names}
-use Rattle.hirgrep_main.specs.declared.asked.Texts.{Texts}
-use Rattle.hirgrep_main.specs.declared.asked.Names.TheVariants.{Always, Never, IfSeveral}
+use Rattle.hirgrep_main.specs.declared.options.asked.Asked.{Asked}
+use Rattle.hirgrep_main.specs.declared.inputs.binary.Binary.{Binary}
+use Rattle.hirgrep_main.specs.declared.inputs.binary.Binary.TheVariants.{AsText}
+use Rattle.hirgrep_main.specs.declared.options.asked.Devices.{Devices}
+use Rattle.hirgrep_main.specs.declared.options.asked.Devices.TheVariants.{ReadAll, ReadNamed, SkipAll}
+use Rattle.hirgrep_main.specs.declared.options.asked.Directories.{Directories}
+use Rattle.hirgrep_main.specs.declared.options.asked.Directories.TheVariants.{Reject, Recurse, Skip}
+use Rattle.hirgrep_main.specs.declared.options.asked.Names.{Names}
+use Rattle.hirgrep_main.specs.declared.options.asked.Texts.{Texts}
+use Rattle.hirgrep_main.specs.declared.options.asked.Names.TheVariants.{Always, Never, IfSeveral}
 
 -- -F, -i, -x, -w, --crlf, --multiline, -z, --multiline-dotall: how patterns are interpreted.
 abbrev pub how_of : Found → PatternOptions

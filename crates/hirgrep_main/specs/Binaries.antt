@@ -7,8 +7,8 @@ use Rattle.grep_core.specs.declared.output_options.Print.{Print}
 use Rattle.grep_core.specs.declared.output_options.Print.TheVariants.{Nothing}
 use Rattle.grep_core.specs.Reporting.{prints_lines}
 use Rattle.grep_options.specs.Options.{is_text}
-use Rattle.hirgrep_main.specs.declared.binary.Binary.{Binary}
-use Rattle.hirgrep_main.specs.declared.binary.Binary.TheVariants.{AsText, Notice, NoMatch}
+use Rattle.hirgrep_main.specs.declared.inputs.binary.Binary.{Binary}
+use Rattle.hirgrep_main.specs.declared.inputs.binary.Binary.TheVariants.{AsText, Notice, NoMatch}
 
 -- --binary-files, -I: of these options and -a the last one has turned off the others.
 abbrev pub binary_by : Option (List ℕ) → Bool → Binary

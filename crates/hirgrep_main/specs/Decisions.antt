@@ -7,12 +7,12 @@ use Rattle.grep_core.specs.declared.output_options.OutputOptions.{OutputOptions}
 use Rattle.grep_core.specs.Report.{first_of}
 use Rattle.grep_core.specs.Reporting.{prints_lines}
 use Rattle.std.specs.Char.{is_control}
-use Rattle.hirgrep_main.specs.declared.asked.Devices.{Devices}
-use Rattle.hirgrep_main.specs.declared.asked.Devices.TheVariants.{ReadAll, ReadNamed, SkipAll}
-use Rattle.hirgrep_main.specs.declared.asked.Asked.{Asked}
-use Rattle.hirgrep_main.specs.declared.asked.Names.{Names}
+use Rattle.hirgrep_main.specs.declared.options.asked.Devices.{Devices}
+use Rattle.hirgrep_main.specs.declared.options.asked.Devices.TheVariants.{ReadAll, ReadNamed, SkipAll}
+use Rattle.hirgrep_main.specs.declared.options.asked.Asked.{Asked}
+use Rattle.hirgrep_main.specs.declared.options.asked.Names.{Names}
 use Rattle.hirgrep_main.specs.Readings.{prints_json}
-use Rattle.hirgrep_main.specs.declared.asked.Names.TheVariants.{Always, Never, IfSeveral}
+use Rattle.hirgrep_main.specs.declared.options.asked.Names.TheVariants.{Always, Never, IfSeveral}
 
 -- ---- what is asked for
 

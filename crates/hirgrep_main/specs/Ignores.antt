@@ -2,7 +2,7 @@
 use Rattle.std.specs.Prelude.{not, codes}
 use Rattle.clap.specs.declared.parser.matches.Found.{Found}
 use Rattle.grep_options.specs.Options.{is_set}
-use Rattle.hirgrep_main.specs.declared.selecting_files.Ignoring.{Ignoring}
+use Rattle.hirgrep_main.specs.declared.files.selecting_files.Ignoring.{Ignoring}
 
 -- What the options say of the ignore files of folders: whether any is read, whether `.ignore` and `.rgignore` are, and whether git's are,
 -- with `.git/info/exclude`. Then, whether those of the folders above those that are searched are read, and whether git's count in its work

@@ -8,7 +8,7 @@ use Rattle.grep_core.specs.declared.output_options.Print.{Print}
 use Rattle.hirgrep_main.specs.Decisions.{counted, prints_nothing}
 use Rattle.json_events.specs.declared.stats.Stats.{Stats}
 use Rattle.text_report.specs.Events.{no_stats}
-use Rattle.hirgrep_main.specs.declared.outcome.Outcome.{Outcome}
+use Rattle.hirgrep_main.specs.declared.results.outcome.Outcome.{Outcome}
 
 -- The outcome before the first file.
 abbrev pub no_outcome : Outcome

@@ -6,9 +6,9 @@ use Rattle.grep_options.specs.Options.{is_set}
 use Rattle.grep_options.specs.Sizes.{size_of}
 use Rattle.grep_core.specs.Reporting.{needs_spans, prints_lines}
 use Rattle.grep_core.specs.declared.output_options.OutputOptions.{OutputOptions}
-use Rattle.hirgrep_main.specs.declared.asked.Asked.{Asked}
-use Rattle.hirgrep_main.specs.declared.reading.Reading.{Reading}
-use Rattle.hirgrep_main.specs.declared.reading.Reading.TheVariants.{Lines, Records, Text, Events, TextEvents}
+use Rattle.hirgrep_main.specs.declared.options.asked.Asked.{Asked}
+use Rattle.hirgrep_main.specs.declared.inputs.reading.Reading.{Reading}
+use Rattle.hirgrep_main.specs.declared.inputs.reading.Reading.TheVariants.{Lines, Records, Text, Events, TextEvents}
 
 -- -z, --multiline, --json: the first one goes with none of the others. The last one decides how lines are printed, and with -q none is.
 abbrev pub reading_given : Found → Reading

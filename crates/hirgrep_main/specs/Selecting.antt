@@ -16,8 +16,8 @@ use Rattle.grep_options.specs.declared.files.FileOption.{FileOption}
 use Rattle.grep_options.specs.declared.files.FileOption.TheVariants.{Include, Exclude, ExcludeFrom}
 use Rattle.hirgrep_main.specs.FileTypes.{TypeRow, is_type, of_type, type_rules}
 use Rattle.hirgrep_main.specs.Ignores.{ignoring_given}
-use Rattle.hirgrep_main.specs.declared.selecting_files.Ignoring.{Ignoring}
-use Rattle.hirgrep_main.specs.declared.selecting_files.Selection.{Selection as TheSelection}
+use Rattle.hirgrep_main.specs.declared.files.selecting_files.Ignoring.{Ignoring}
+use Rattle.hirgrep_main.specs.declared.files.selecting_files.Selection.{Selection as TheSelection}
 
 -- ---- the rules that options give
 

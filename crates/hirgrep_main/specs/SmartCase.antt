@@ -5,9 +5,9 @@ use Rattle.std.specs.Prelude.{ℕ, ◌+◌, ◌-◌, ◌*◌, ◌^◌, min, ◌=
 use Rattle.std.specs.List.{list_any}
 use Rattle.std.specs.Char.{digit_value}
 use Rattle.std.specs.Char.Unicode.Uppercase.{is_uppercase}
-use Rattle.hirgrep_main.specs.declared.smart_case.Mode.{Mode}
-use Rattle.hirgrep_main.specs.declared.smart_case.Mode.TheVariants.{Item, Escape, Property, Digits, Braced, Group, Flags, Class, Negated, Nested, Until}
-use Rattle.hirgrep_main.specs.declared.smart_case.Scan.{Scan}
+use Rattle.hirgrep_main.specs.declared.options.smart_case.Mode.{Mode}
+use Rattle.hirgrep_main.specs.declared.options.smart_case.Mode.TheVariants.{Item, Escape, Property, Digits, Braced, Group, Flags, Class, Negated, Nested, Until}
+use Rattle.hirgrep_main.specs.declared.options.smart_case.Scan.{Scan}
 
 -- What was read of no pattern.
 abbrev pub no_scan : Scan

@@ -21,9 +21,9 @@ use Rattle.hirgrep_main.specs.Binaries.{is_binary, options_by, searched_bytes}
 use Rattle.hirgrep_main.specs.Decisions.{is_headed}
 use Rattle.hirgrep_main.specs.Outcomes.{known_of}
 use Rattle.hirgrep_main.specs.Totals.{no_time}
-use Rattle.hirgrep_main.specs.declared.reading.Reading.{Reading}
-use Rattle.hirgrep_main.specs.declared.reading.Reading.TheVariants.{Lines, Records, Text, Events, TextEvents}
-use Rattle.hirgrep_main.specs.declared.outcome.Outcome.{Outcome}
+use Rattle.hirgrep_main.specs.declared.inputs.reading.Reading.{Reading}
+use Rattle.hirgrep_main.specs.declared.inputs.reading.Reading.TheVariants.{Lines, Records, Text, Events, TextEvents}
+use Rattle.hirgrep_main.specs.declared.results.outcome.Outcome.{Outcome}
 use Rattle.hirgrep_main.specs.declared.task.Task.{Task}
 
 -- The width of numbers depends on the input, and the other options don't.

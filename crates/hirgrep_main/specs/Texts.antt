@@ -7,8 +7,8 @@ use Rattle.grep_options.specs.Escapes.{unescaped}
 use Rattle.grep_core.specs.declared.output_options.Print.{Print}
 use Rattle.hirgrep_main.specs.Decisions.{prints_nothing, shown_char}
 use Rattle.hirgrep_main.specs.GrepColors.{codes_of, colors_given}
-use Rattle.hirgrep_main.specs.declared.asked.Texts.{Texts}
-use Rattle.hirgrep_main.specs.declared.texts.GivenTexts.{GivenTexts}
+use Rattle.hirgrep_main.specs.declared.options.asked.Texts.{Texts}
+use Rattle.hirgrep_main.specs.declared.options.texts.GivenTexts.{GivenTexts}
 
 -- The parts of a name, with this text between each two.
 abbrev pub joined_parts : List ℕ → List (List ℕ) → List ℕ

@@ -5,13 +5,13 @@ use Rattle.globs.specs.Rules.{ends_in_slash}
 use Rattle.hirgrep_main.specs.Decisions.{counted}
 use Rattle.hirgrep_main.specs.Outcomes.{with_failure}
 use Rattle.hirgrep_main.specs.Selecting.{Selection, skips_named}
-use Rattle.hirgrep_main.specs.declared.asked.Directories.{Directories}
-use Rattle.hirgrep_main.specs.declared.asked.Directories.TheVariants.{Reject, Recurse, Skip}
-use Rattle.hirgrep_main.specs.declared.outcome.Outcome.{Outcome}
+use Rattle.hirgrep_main.specs.declared.options.asked.Directories.{Directories}
+use Rattle.hirgrep_main.specs.declared.options.asked.Directories.TheVariants.{Reject, Recurse, Skip}
+use Rattle.hirgrep_main.specs.declared.results.outcome.Outcome.{Outcome}
 use Rattle.hirgrep_main.specs.declared.searching.Named.{Named}
 use Rattle.hirgrep_main.specs.declared.searching.Named.TheVariants.{Input, File as NamedFile, Folder as NamedFolder, Device as NamedDevice}
-use Rattle.hirgrep_main.specs.declared.walking.Kind.{Kind}
-use Rattle.hirgrep_main.specs.declared.walking.Kind.TheVariants.{File, Folder, Link, Device}
+use Rattle.hirgrep_main.specs.declared.files.walking.Kind.{Kind}
+use Rattle.hirgrep_main.specs.declared.files.walking.Kind.TheVariants.{File, Folder, Link, Device}
 
 -- ---- the entries of a folder
 

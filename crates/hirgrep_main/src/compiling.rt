@@ -6,13 +6,13 @@ ghost use Rattle.hirgrep_main.specs.Readings.{prints_summary};
 ghost use Rattle.hirgrep_main.specs.Outcomes.{no_outcome, with_failure};
 ghost use Rattle.hirgrep_main.specs.Asks.{with_case};
 
-use crate::asked::Asked;
-use crate::decisions::{lists_matches, prints_summary, selects_none};
 use crate::longest_first::put_longest_first;
-use crate::messages::{is_misnamed, report_no_finder};
-use crate::outcome::Outcome;
+use crate::options::asked::Asked;
+use crate::options::decisions::{lists_matches, prints_summary, selects_none};
+use crate::options::smart_case::ignores_case;
+use crate::results::messages::{is_misnamed, report_no_finder};
+use crate::results::outcome::Outcome;
 use crate::searching::{Files, search_files};
-use crate::smart_case::ignores_case;
 use line_search::{Finder, LinePatterns, PatternOptions, SearcherError, config_of, pattern_source};
 use std::alloc::{AllocError, Global};
 use std::rt::Runtime;

@@ -1,24 +1,24 @@
 //! Searches files, one after the other.
 ghost use Rattle.std.specs.Prelude.{◌≡◌, true, false, None, Result, Ok, IfErr, IfOk, OnOk, codes};
 ghost use Rattle.hirgrep_main.specs.Decisions.{reads_found, reads_named};
-ghost use Rattle.hirgrep_main.specs.declared.asked.Directories.TheVariants.{Reject, Skip};
+ghost use Rattle.hirgrep_main.specs.declared.options.asked.Directories.TheVariants.{Reject, Skip};
 ghost use Rattle.hirgrep_main.specs.declared.searching.Named.TheVariants.{Input, File, Folder, Device};
-ghost use Rattle.hirgrep_main.specs.declared.walking.Kind.TheVariants.{Link, Device as FoundDevice, File as FoundFile, Folder as FoundFolder};
+ghost use Rattle.hirgrep_main.specs.declared.files.walking.Kind.TheVariants.{Link, Device as FoundDevice, File as FoundFile, Folder as FoundFolder};
 ghost use Rattle.hirgrep_main.specs.Selecting.{depth_in, enters, selection, skips_found};
 ghost use Rattle.hirgrep_main.specs.Walking.{Tries, is_file, is_file_kind, is_folder, is_folder_kind, is_left_out, leaves_out, may_be_several, named_by};
 ghost use Rattle.hirgrep_main.specs.Outcomes.{Continues, with_failure};
 
-use crate::asked::{Asked, Directories};
-use crate::decisions::{is_named, reads_found, reads_named};
-use crate::ignoring::IgnoreFiles;
-use crate::opening::{search_file, search_input};
-use crate::outcome::Outcome;
-use crate::patterns::PatternFile;
-use crate::reading::prints_json;
-use crate::selecting_files::Selection;
-use crate::shown::hides_controls;
+use crate::files::ignoring::IgnoreFiles;
+use crate::files::opening::{search_file, search_input};
+use crate::files::selecting_files::Selection;
+use crate::files::walking::{Kind, kind_of, output_file, push_folder, push_found};
+use crate::inputs::reading::prints_json;
+use crate::options::asked::{Asked, Directories};
+use crate::options::decisions::{is_named, reads_found, reads_named};
+use crate::options::patterns::PatternFile;
+use crate::results::outcome::Outcome;
+use crate::results::shown::hides_controls;
 use crate::task::{Task, shown_name};
-use crate::walking::{Kind, kind_of, output_file, push_folder, push_found};
 use line_search::Finder;
 use std::alloc::{AllocError, Global};
 use std::io::IsTerminal;

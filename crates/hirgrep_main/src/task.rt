@@ -1,8 +1,8 @@
 //! What files are searched for.
 
-use crate::asked::Asked;
-use crate::selecting_files::Selection;
-use crate::walking::FileId;
+use crate::files::selecting_files::Selection;
+use crate::files::walking::FileId;
+use crate::options::asked::Asked;
 
 /// What files are searched for, and how the results are printed.
 #[derive(Clone, Copy)]

@@ -5,8 +5,8 @@ ghost use Rattle.globs.specs.Ignoring.{ignored, level_of, with_text};
 ghost use Rattle.globs.specs.Paths.{full_path};
 ghost use Rattle.hirgrep_main.specs.Outcomes.{Continues, with_failure};
 
-use crate::outcome::Outcome;
-use crate::path_names::{base_len, depth_in};
+use crate::files::path_names::{base_len, depth_in};
+use crate::results::outcome::Outcome;
 use crate::task::{Task, shown_name};
 use globs::{IgnoreKind, IgnoreLevel, chars_of, full_path, ignored};
 use std::alloc::{AllocError, Global};

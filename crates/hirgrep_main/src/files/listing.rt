@@ -5,10 +5,10 @@ ghost use Rattle.hirgrep_main.specs.Decisions.{counted};
 ghost use Rattle.hirgrep_main.specs.Outcomes.{Continues};
 ghost use Rattle.hirgrep_main.specs.Texts.{listed_name, printed_name};
 
-use crate::messages::Causes;
-use crate::outcome::Outcome;
-use crate::output::Output;
-use crate::shown::without_controls;
+use crate::results::messages::Causes;
+use crate::results::outcome::Outcome;
+use crate::results::output::Output;
+use crate::results::shown::without_controls;
 use crate::task::Task;
 use grep_core::Print;
 use line_search::Fault;

@@ -6,9 +6,9 @@ ghost use Rattle.globs.specs.Ignoring.{ignore_rules};
 ghost use Rattle.globs.specs.Rules.{excluded, grep_rule, rule_of};
 ghost use Rattle.hirgrep_main.specs.Selecting.{AreIgnored, excluded_lines};
 
-use crate::asked::Asked;
-use crate::input::input;
-use crate::messages::report_error;
+use crate::inputs::input::input;
+use crate::options::asked::Asked;
+use crate::results::messages::report_error;
 use globs::{Rule, chars_of, push_excluded, push_ignore_rules};
 use std::alloc::{AllocError, Global};
 use std::rt::Runtime;

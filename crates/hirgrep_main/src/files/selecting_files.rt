@@ -14,12 +14,12 @@ ghost use Rattle.hirgrep_main.specs.Ignores.{ignoring_given};
 ghost use Rattle.hirgrep_main.specs.Selecting.{are_types, gives_types, named_types, types_given};
 ghost use Rattle.hirgrep_main.specs.FileTypes.{is_type, of_type, rows_of, type_rules};
 
-use crate::asked::Asked;
-use crate::file_types::{is_type, push_type};
-use crate::path_names::{begins_with_dot, is_name};
-use crate::rule_files::{push_file, push_ignore_files, push_rule};
-use crate::shown::Shown;
-use crate::sizes::{gives_size, is_too_large, size_given};
+use crate::files::path_names::{begins_with_dot, is_name};
+use crate::files::rule_files::{push_file, push_ignore_files, push_rule};
+use crate::options::asked::Asked;
+use crate::options::file_types::{is_type, push_type};
+use crate::options::sizes::{gives_size, is_too_large, size_given};
+use crate::results::shown::Shown;
 use clap::ArgMatches;
 use globs::{
     Fault, FaultKind, Rule, any_selects, chars_of, chooses, decides, file_name, skips, without_dot,

@@ -5,9 +5,9 @@ ghost use Rattle.hirgrep_main.specs.Outcomes.{Continues, with_failure};
 ghost use Rattle.hirgrep_main.specs.Selecting.{depth_in, enters};
 ghost use Rattle.hirgrep_main.specs.Walking.{is_entry, joined};
 
-use crate::messages::warn_of_loop;
-use crate::outcome::Outcome;
-use crate::path_names::{base_len, depth_in};
+use crate::files::path_names::{base_len, depth_in};
+use crate::results::messages::warn_of_loop;
+use crate::results::outcome::Outcome;
 use crate::task::{Task, shown_name};
 use std::alloc::{AllocError, Global};
 use std::fs::Metadata;

@@ -1,7 +1,7 @@
 //! A reader that counts bytes, tries again after an interruption, and keeps the code of an error.
 ghost use Rattle.std.specs.Prelude.{◌≡◌};
 
-use crate::retrying;
+use crate::inputs::retrying;
 use std::io;
 use std::io::{ErrorKind, Read};
 

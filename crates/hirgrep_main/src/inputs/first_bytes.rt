@@ -5,7 +5,7 @@ ghost use Rattle.hirgrep_main.specs.Binaries.{first_len, has_zero, with_feeds, z
 ghost use Rattle.std.specs.Io.{ReadsAtMost};
 ghost use Rattle.std.specs.Io.KnownBytes.{ReadConsumes};
 
-use crate::binary::Binary;
+use crate::inputs::binary::Binary;
 use std::alloc::{AllocError, Global};
 use std::io;
 use std::io::Read;

@@ -1,6 +1,6 @@
 //! Standard input.
 
-use crate::asked::Asked;
+use crate::options::asked::Asked;
 use std::io::Stdin;
 use std::rt::Runtime;
 

@@ -6,12 +6,12 @@ ghost use Rattle.hirgrep_main.specs.Binaries.{has_zero, searched_bytes};
 ghost use Rattle.hirgrep_main.specs.Texts.{printed_name, without_controls};
 ghost use Rattle.hirgrep_main.specs.Tasks.{IsInputReported, count_for, count_of, patterns_by, report_for, report_in, whole_report_for, whole_report_in};
 
-use crate::binary::{Binary, is_noticed};
-use crate::first_bytes::{Searched, has_zero, read_first};
-use crate::messages::report_reason;
-use crate::outcome::Outcome;
-use crate::reporting::report_reader;
-use crate::shown::without_controls;
+use crate::inputs::binary::{Binary, is_noticed};
+use crate::inputs::first_bytes::{Searched, has_zero, read_first};
+use crate::inputs::reporting::report_reader;
+use crate::results::messages::report_reason;
+use crate::results::outcome::Outcome;
+use crate::results::shown::without_controls;
 use crate::task::Task;
 use grep_core::Headed;
 use json_events::Stats;

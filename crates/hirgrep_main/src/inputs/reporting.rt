@@ -5,13 +5,13 @@ ghost use Rattle.grep_core.specs.Reporting.{needs_spans};
 ghost use Rattle.hirgrep_main.specs.Decisions.{is_headed};
 ghost use Rattle.hirgrep_main.specs.Readings.{lists_matches};
 ghost use Rattle.hirgrep_main.specs.Tasks.{IsInputReported, count_for, patterns_by, options_for, options_in, report_for, whole_report_for};
-ghost use Rattle.hirgrep_main.specs.declared.reading.Reading.TheVariants.{Lines};
+ghost use Rattle.hirgrep_main.specs.declared.inputs.reading.Reading.TheVariants.{Lines};
 
-use crate::binary::{options_by, prints_lines};
-use crate::outcome::Outcome;
-use crate::reading::is_by_lines;
+use crate::inputs::binary::{options_by, prints_lines};
+use crate::inputs::reading::is_by_lines;
+use crate::inputs::whole_report::report_whole;
+use crate::results::outcome::Outcome;
 use crate::task::Task;
-use crate::whole_report::report_whole;
 use grep_core::{Headed, OutputOptions, Print, report_headed, report_input};
 use json_events::Stats;
 use line_search::{Fault, Finder};

@@ -10,11 +10,11 @@ ghost use Rattle.hirgrep_main.specs.Readings.{lists_in};
 ghost use Rattle.hirgrep_main.specs.Tasks.{IsInputReported, body, body_count, patterns_by, report_by, whole_report_by};
 ghost use Rattle.hirgrep_main.specs.Totals.{no_time, summed};
 
-use crate::outcome::Outcome;
-use crate::reading::{Reading, read_whole};
-use crate::reporting::is_headed;
+use crate::inputs::reading::{Reading, read_whole};
+use crate::inputs::reporting::is_headed;
+use crate::results::outcome::Outcome;
+use crate::results::totals::{no_time, summed};
 use crate::task::Task;
-use crate::totals::{no_time, summed};
 use grep_core::{Headed, OutputOptions, SeparatorState, heading_of, report_input, write_out};
 use json_events::Stats;
 use line_search::{Fault, Finder};

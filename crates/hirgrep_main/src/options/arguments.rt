@@ -1,7 +1,7 @@
 //! The words of the command line, and messages about them.
 
-use crate::messages::report_output;
-use crate::shown::{Shown, ShownLines};
+use crate::results::messages::report_output;
+use crate::results::shown::{Shown, ShownLines};
 use clap::Error;
 use std::alloc::AllocError;
 use std::io::ErrorKind;

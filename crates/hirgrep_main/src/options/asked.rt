@@ -7,8 +7,8 @@ ghost use Rattle.hirgrep_main.specs.Asks.{all_lines, asked_names, asked_of, colo
 ghost use Rattle.hirgrep_main.specs.Asks.{binary_given, group_given, has_columns, has_heading, has_numbers, most_bytes_by, print_of, template_given, terminator_given, what_of};
 ghost use Rattle.hirgrep_main.specs.Readings.{dot_matches_feeds, most_given, reading_given};
 
-use crate::binary::{Binary, binary_of};
-use crate::reading::{Reading, dot_matches_feeds, most_given, reading_given};
+use crate::inputs::binary::{Binary, binary_of};
+use crate::inputs::reading::{Reading, dot_matches_feeds, most_given, reading_given};
 use clap::ArgMatches;
 use grep_core::{Colors, Context, GroupSeparator, OutputOptions, Print};
 use grep_options::{is_set, limit, number};

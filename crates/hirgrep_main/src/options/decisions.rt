@@ -4,9 +4,9 @@ ghost use Rattle.hirgrep_main.specs.Decisions.{is_most, may_run_on, prints_all, 
 ghost use Rattle.hirgrep_main.specs.Decisions.{shows_names, wants_none};
 ghost use Rattle.hirgrep_main.specs.Readings.{lists_matches, prints_summary};
 
-use crate::asked::{Asked, Devices, Names};
-use crate::binary::prints_lines;
-use crate::reading::{lists_all, prints_json};
+use crate::inputs::binary::prints_lines;
+use crate::inputs::reading::{lists_all, prints_json};
+use crate::options::asked::{Asked, Devices, Names};
 use grep_core::{OutputOptions, Print, needs_spans};
 
 fn prints_names_if_none(print: Print) -> bool

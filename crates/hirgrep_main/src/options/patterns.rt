@@ -5,9 +5,9 @@ ghost use Rattle.std.specs.Str.Lines.{lines};
 ghost use Rattle.clap.specs.Words.{found_of};
 ghost use Rattle.hirgrep_main.specs.Given.{ArePatterns, patterns_of_file, gives_patterns, lines_as_patterns};
 
-use crate::asked::Asked;
-use crate::input::input;
-use crate::messages::report_error;
+use crate::inputs::input::input;
+use crate::options::asked::Asked;
+use crate::results::messages::report_error;
 use clap::ArgMatches;
 use std::alloc::{AllocError, Global};
 use std::rt::Runtime;

@@ -3,7 +3,7 @@ ghost use Rattle.std.specs.Prelude.{◌≡◌, true, false, None, is_some};
 ghost use Rattle.clap.specs.Words.{found_of};
 ghost use Rattle.hirgrep_main.specs.Selecting.{gives_size, is_size_given, is_too_large, size_given};
 
-use crate::shown::Shown;
+use crate::results::shown::Shown;
 use clap::ArgMatches;
 use grep_options::size_of;
 use std::rt::Runtime;

@@ -3,8 +3,8 @@ ghost use Rattle.std.specs.Prelude.{◌≡◌, ◌++◌, IfOk, OnOk, codes, if�
 ghost use Rattle.clap.specs.Words.{found_of};
 ghost use Rattle.hirgrep_main.specs.Texts.{AreTexts, separated_name, separator_given};
 
-use crate::asked::Texts;
-use crate::grep_colors::{colors_given, is_color};
+use crate::options::asked::Texts;
+use crate::options::grep_colors::{colors_given, is_color};
 use clap::ArgMatches;
 use grep_options::unescaped;
 use std::alloc::{AllocError, Global};

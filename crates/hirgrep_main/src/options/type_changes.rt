@@ -7,8 +7,8 @@ ghost use Rattle.hirgrep_main.specs.Selecting.{are_types};
 ghost use Rattle.hirgrep_main.specs.TypeChanges.{are_definitions, changes_types, end_of, colon_parts, gives_definitions, is_cleared, is_definition, types_kept, may_be_added};
 ghost use Rattle.hirgrep_main.specs.TypeChanges.{may_be_named, may_include, names_in, rows_of_types, types_changed, with_definition, with_definitions, with_row, with_rows};
 
-use crate::file_types::{is_of, is_type};
-use crate::shown::Shown;
+use crate::options::file_types::{is_of, is_type};
+use crate::results::shown::Shown;
 use clap::ArgMatches;
 use globs::{chars_of, is_type_glob};
 use std::alloc::{AllocError, Global};

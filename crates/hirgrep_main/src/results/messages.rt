@@ -1,10 +1,10 @@
 //! Messages on standard error for patterns that are rejected, and for inputs that aren't searched to their end.
 
-use crate::asked::Asked;
 use crate::class_names::{Misnamed, first_misnamed};
-use crate::loops::loop_offset;
-use crate::patterns::PatternFile;
-use crate::shown::Shown;
+use crate::options::asked::Asked;
+use crate::options::loops::loop_offset;
+use crate::options::patterns::PatternFile;
+use crate::results::shown::Shown;
 use hirhead::pointed;
 use lazy_dfa::BuildError;
 use line_search::{Fault, SearcherError};

@@ -4,9 +4,9 @@ ghost use Rattle.hirgrep_main.specs.Decisions.{prints_nothing, status};
 ghost use Rattle.hirgrep_main.specs.Outcomes.{after_result, after_search, is_of_output, known_of, no_outcome};
 ghost use Rattle.hirgrep_main.specs.Outcomes.{with_failure, with_file, with_lines};
 
-use crate::asked::Asked;
-use crate::messages::{Causes, report_error, report_fault, report_output, report_reason};
-use crate::totals::{no_stats, no_time};
+use crate::options::asked::Asked;
+use crate::results::messages::{Causes, report_error, report_fault, report_output, report_reason};
+use crate::results::totals::{no_stats, no_time};
 use grep_core::{Print, SeparatorState};
 use json_events::{Stats, push_summary};
 use line_search::{Fault, Finder};

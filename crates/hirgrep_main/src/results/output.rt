@@ -1,7 +1,7 @@
 //! A writer that records whether bytes were written to it, tries again after an interruption, and keeps the code of an error.
 ghost use Rattle.std.specs.Prelude.{◌≡◌, false};
 
-use crate::retrying;
+use crate::inputs::retrying;
 use std::io;
 use std::io::{ErrorKind, Write};
 

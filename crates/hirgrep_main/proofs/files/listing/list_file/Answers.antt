@@ -1,5 +1,5 @@
 use Rattle.hirgrep_main.proofs.OutcomeLemmas.{continues_as, continues_searched, searched_as}
-use Rattle.hirgrep_main.proofs.listing.list_file.Goals as goal
+use Rattle.hirgrep_main.proofs.files.listing.list_file.Goals as goal
 
 pub returns-clause-counted : goal.returns-clause-counted
 returns-clause-counted c =

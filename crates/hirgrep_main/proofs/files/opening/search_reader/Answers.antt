@@ -4,7 +4,7 @@ use Rattle.hirgrep_main.specs.Tasks.{count_of, patterns_by, report_in, whole_rep
 use Rattle.hirgrep_main.specs.Texts.{printed_name}
 use Rattle.hirgrep_main.proofs.OutcomeLemmas.{continues_as, continues_searched, continues_with, searched_as}
 use Rattle.hirgrep_main.proofs.ReportLemmas.{counted_known}
-use Rattle.hirgrep_main.proofs.opening.search_reader.Goals as goal
+use Rattle.hirgrep_main.proofs.files.opening.search_reader.Goals as goal
 
 pub returns-clause-came : goal.returns-clause-came
 returns-clause-came g c = (

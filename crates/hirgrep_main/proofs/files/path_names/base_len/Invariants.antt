@@ -1,7 +1,7 @@
 use Rattle.std.proofs.Common.{◌≡◌, ◌≤◌, drop}
 use Rattle.globs.specs.Matching.{is_slash}
 use Rattle.globs.specs.Paths.{kept_len}
-use Rattle.hirgrep_main.proofs.path_names.base_len.Given as goal
+use Rattle.hirgrep_main.proofs.files.path_names.base_len.Given as goal
 
 abbrev pub invariant-loop-at : goal.invariant-loop-at
 invariant-loop-at l = record {

@@ -1,6 +1,6 @@
 use Rattle.std.proofs.Common.{◌≡◌, ◌+◌, ◌≤◌, drop}
 use Rattle.hirgrep_main.specs.Selecting.{slashes}
-use Rattle.hirgrep_main.proofs.path_names.slashes.Given as goal
+use Rattle.hirgrep_main.proofs.files.path_names.slashes.Given as goal
 
 abbrev pub invariant-loop-byte : goal.invariant-loop-byte
 invariant-loop-byte l = record {

@@ -1,7 +1,7 @@
 use Rattle.std.proofs.Common.{arith}
 use Rattle.std.proofs.lemmas.List.{length-map}
 use Rattle.hirgrep_main.proofs.SelectingLemmas.{ignored_as, ignored_more, ignored_none}
-use Rattle.hirgrep_main.proofs.rule_files.push_ignore_files.Goals as goal
+use Rattle.hirgrep_main.proofs.files.rule_files.push_ignore_files.Goals as goal
 
 pub loop-name-init : goal.loop-name-init
 loop-name-init c = ignored_none _

@@ -4,7 +4,7 @@ use Rattle.std.specs.Str.{chars}
 use Rattle.std.proofs.lemmas.Iterator.Consumers.{YieldsList-end}
 use Rattle.std.proofs.lemmas.Iterator.Splits.{YieldsList-from_str_split}
 use Rattle.globs.specs.Rules.{excluded, rule_of}
-use Rattle.hirgrep_main.proofs.rule_files.push_lines.Goals as goal
+use Rattle.hirgrep_main.proofs.files.rule_files.push_lines.Goals as goal
 
 pub returns : goal.returns
 returns c =

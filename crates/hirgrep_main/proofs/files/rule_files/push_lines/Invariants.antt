@@ -2,7 +2,7 @@ use Rattle.std.proofs.Common.{◌≡◌, ◌++◌, map}
 use Rattle.std.specs.List.{flat_map}
 use Rattle.std.specs.Str.{chars}
 use Rattle.globs.specs.Rules.{excluded, rule_of}
-use Rattle.hirgrep_main.proofs.rule_files.push_lines.Given as goal
+use Rattle.hirgrep_main.proofs.files.rule_files.push_lines.Given as goal
 
 abbrev pub invariant-loop-line : goal.invariant-loop-line
 invariant-loop-line l =

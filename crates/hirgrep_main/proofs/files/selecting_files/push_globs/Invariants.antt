@@ -1,7 +1,7 @@
 use Rattle.std.proofs.Common.{◌≡◌, ◌++◌, drop, map}
 use Rattle.globs.specs.Rules.{rule_of}
 use Rattle.hirgrep_main.specs.Selecting.{are_sound, glob_rules}
-use Rattle.hirgrep_main.proofs.selecting_files.push_globs.Given as goal
+use Rattle.hirgrep_main.proofs.files.selecting_files.push_globs.Given as goal
 
 abbrev pub invariant-loop-text : goal.invariant-loop-text
 invariant-loop-text l = record {

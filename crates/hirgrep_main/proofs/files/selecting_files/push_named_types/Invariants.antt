@@ -2,7 +2,7 @@ use Rattle.std.proofs.Common.{◌≡◌, ◌++◌, drop, map}
 use Rattle.globs.specs.Rules.{rule_of}
 use Rattle.hirgrep_main.specs.FileTypes.{rows_of}
 use Rattle.hirgrep_main.specs.Selecting.{are_types, named_types}
-use Rattle.hirgrep_main.proofs.selecting_files.push_named_types.Given as goal
+use Rattle.hirgrep_main.proofs.files.selecting_files.push_named_types.Given as goal
 
 abbrev pub invariant-loop-name : goal.invariant-loop-name
 invariant-loop-name l = record {

@@ -1,7 +1,7 @@
 use Rattle.std.proofs.Common.{map}
 use Rattle.grep_options.specs.FileOptions.{given_of}
 use Rattle.hirgrep_main.proofs.SelectingLemmas.{added_all, added_more, added_none, names_none_on, values_cut}
-use Rattle.hirgrep_main.proofs.selecting_files.push_values.Goals as goal
+use Rattle.hirgrep_main.proofs.files.selecting_files.push_values.Goals as goal
 
 pub loop-value-init : goal.loop-value-init
 loop-value-init c = record { rules = added_none _ _; sure = λ e. e }

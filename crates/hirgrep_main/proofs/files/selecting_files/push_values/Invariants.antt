@@ -4,7 +4,7 @@ use Rattle.globs.specs.Rules.{rule_of}
 use Rattle.grep_options.specs.FileOptions.{given_of}
 use Rattle.hirgrep_main.specs.Selecting.{names_rules}
 use Rattle.hirgrep_main.proofs.SelectingLemmas.{AreAdded}
-use Rattle.hirgrep_main.proofs.selecting_files.push_values.Given as goal
+use Rattle.hirgrep_main.proofs.files.selecting_files.push_values.Given as goal
 
 abbrev pub invariant-loop-value : goal.invariant-loop-value
 invariant-loop-value l = record {

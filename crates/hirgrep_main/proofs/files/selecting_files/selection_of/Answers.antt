@@ -2,7 +2,7 @@ use Rattle.std.proofs.Common.{◌∙◌, ap}
 use Rattle.clap.specs.Words.{found_of}
 use Rattle.hirgrep_main.specs.FileTypes.{rows_of}
 use Rattle.hirgrep_main.specs.Selecting.{with_ignored, with_rules}
-use Rattle.hirgrep_main.proofs.selecting_files.selection_of.Goals as goal
+use Rattle.hirgrep_main.proofs.files.selecting_files.selection_of.Goals as goal
 
 pub returns-clause-rules : goal.returns-clause-rules
 returns-clause-rules c =

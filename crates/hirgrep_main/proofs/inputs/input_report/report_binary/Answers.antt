@@ -1,7 +1,7 @@
 use Rattle.hirgrep_main.specs.Binaries.{searched_bytes}
 use Rattle.hirgrep_main.specs.Tasks.{IsInputReported, count_for, patterns_by, report_for, whole_report_for}
 use Rattle.hirgrep_main.proofs.ReportLemmas.{if_any, if_read, nothing_written}
-use Rattle.hirgrep_main.proofs.input_report.report_binary.Goals as goal
+use Rattle.hirgrep_main.proofs.inputs.input_report.report_binary.Goals as goal
 
 pub returns-in-Ok-clause-reported : goal.returns-in-Ok-clause-reported
 returns-in-Ok-clause-reported g c = λ by.

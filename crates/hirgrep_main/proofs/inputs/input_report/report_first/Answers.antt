@@ -1,6 +1,6 @@
 use Rattle.hirgrep_main.specs.Tasks.{IsInputReported, count_for, patterns_by, report_for, whole_report_for}
 use Rattle.hirgrep_main.proofs.ReportLemmas.{if_searched}
-use Rattle.hirgrep_main.proofs.input_report.report_first.Goals as goal
+use Rattle.hirgrep_main.proofs.inputs.input_report.report_first.Goals as goal
 
 pub returns-clause-reported : goal.returns-clause-reported
 returns-clause-reported g c = λ by.

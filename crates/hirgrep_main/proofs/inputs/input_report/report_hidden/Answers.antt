@@ -2,7 +2,7 @@ use Rattle.std.proofs.Common.{◌∙◌, ℕ, List, subst}
 use Rattle.std.specs.Prelude.{IfSome}
 use Rattle.hirgrep_main.specs.Tasks.{IsInputReported, count_of, patterns_by, report_in, whole_report_in}
 use Rattle.hirgrep_main.proofs.ReportLemmas.{if_any, nothing_written}
-use Rattle.hirgrep_main.proofs.input_report.report_hidden.Goals as goal
+use Rattle.hirgrep_main.proofs.inputs.input_report.report_hidden.Goals as goal
 
 pub returns-in-Ok-clause-reported : goal.returns-in-Ok-clause-reported
 returns-in-Ok-clause-reported g c = λ by.

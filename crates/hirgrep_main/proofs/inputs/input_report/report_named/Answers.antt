@@ -1,7 +1,7 @@
 use Rattle.hirgrep_main.specs.Decisions.{is_headed}
 use Rattle.hirgrep_main.specs.Tasks.{IsInputReported, body_count, options_in, patterns_by, report_by, whole_report_by}
 use Rattle.hirgrep_main.proofs.ReportLemmas.{if_text}
-use Rattle.hirgrep_main.proofs.input_report.report_named.Goals as goal
+use Rattle.hirgrep_main.proofs.inputs.input_report.report_named.Goals as goal
 
 pub returns-in-AsText-clause-reported : goal.returns-in-AsText-clause-reported
 returns-in-AsText-clause-reported g c = λ by.

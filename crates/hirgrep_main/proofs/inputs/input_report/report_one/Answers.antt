@@ -2,7 +2,7 @@ use Rattle.std.proofs.Common.{Bool, subst, sym}
 use Rattle.std.specs.Prelude.{IfSome}
 use Rattle.hirgrep_main.specs.Tasks.{IsInputReported, count_of, patterns_by, report_in, whole_report_in}
 use Rattle.hirgrep_main.specs.Texts.{printed_name}
-use Rattle.hirgrep_main.proofs.input_report.report_one.Goals as goal
+use Rattle.hirgrep_main.proofs.inputs.input_report.report_one.Goals as goal
 
 pub returns-then-task-clause-reported : goal.returns-then-task-clause-reported
 returns-then-task-clause-reported g c = λ by.

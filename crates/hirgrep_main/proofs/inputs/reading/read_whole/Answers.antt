@@ -1,6 +1,6 @@
 use Rattle.std.proofs.Common.{arith}
 use Rattle.hirgrep_main.proofs.BinaryLemmas.{taken, whole_read}
-use Rattle.hirgrep_main.proofs.reading.read_whole.Goals as goal
+use Rattle.hirgrep_main.proofs.inputs.reading.read_whole.Goals as goal
 
 pub returns-clause-whole : goal.returns-clause-whole
 returns-clause-whole g c =

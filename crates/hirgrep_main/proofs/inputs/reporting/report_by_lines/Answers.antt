@@ -1,9 +1,9 @@
 use Rattle.std.proofs.Common.{◌∙◌, true, false, ap, sym}
 use Rattle.hirgrep_main.specs.Decisions.{is_headed}
-use Rattle.hirgrep_main.specs.declared.reading.Reading.TheVariants.{Lines}
+use Rattle.hirgrep_main.specs.declared.inputs.reading.Reading.TheVariants.{Lines}
 use Rattle.hirgrep_main.specs.Tasks.{body_count, has_heading_for, options_in, report_by, whole_report_by}
 use Rattle.hirgrep_main.proofs.ReportLemmas.{reported_by}
-use Rattle.hirgrep_main.proofs.reporting.report_by_lines.Goals as goal
+use Rattle.hirgrep_main.proofs.inputs.reporting.report_by_lines.Goals as goal
 
 pub returns-then-is_headed-clause-reported : goal.returns-then-is_headed-clause-reported
 returns-then-is_headed-clause-reported g c =

@@ -4,9 +4,9 @@ use Rattle.line_search.specs.Searchers.{SearchesFor}
 use Rattle.hirgrep_main.specs.Decisions.{is_headed}
 use Rattle.hirgrep_main.specs.Readings.{lists_in}
 use Rattle.hirgrep_main.specs.Tasks.{IsInputReported, body_count, count_for, options_in, patterns_by, report_by, report_for, whole_report_by, whole_report_for}
-use Rattle.hirgrep_main.specs.declared.reading.Reading.{Reading}
+use Rattle.hirgrep_main.specs.declared.inputs.reading.Reading.{Reading}
 use Rattle.hirgrep_main.proofs.ReportLemmas.{by_lines, reported_for}
-use Rattle.hirgrep_main.proofs.reporting.report_reader.Goals as goal
+use Rattle.hirgrep_main.proofs.inputs.reporting.report_reader.Goals as goal
 
 pub returns-then-is_by_lines-clause-reported : goal.returns-then-is_by_lines-clause-reported
 returns-then-is_by_lines-clause-reported g c =

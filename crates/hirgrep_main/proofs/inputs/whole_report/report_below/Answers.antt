@@ -4,7 +4,7 @@ use Rattle.grep_core.specs.Headings.{heading, under}
 use Rattle.grep_core.specs.declared.separator_state.SeparatorState.TheVariants.{NonePrinted}
 use Rattle.hirgrep_main.specs.Tasks.{body, patterns_by}
 use Rattle.hirgrep_main.proofs.ReportLemmas.{part_under}
-use Rattle.hirgrep_main.proofs.whole_report.report_below.Goals as goal
+use Rattle.hirgrep_main.proofs.inputs.whole_report.report_below.Goals as goal
 
 pub returns-clause-part : goal.returns-clause-part
 returns-clause-part g c by =

@@ -3,7 +3,7 @@ use Rattle.std.specs.Io.KnownBytes.{Appends}
 use Rattle.line_search.specs.Searchers.{found_by}
 use Rattle.json_events.specs.declared.elapsed.Elapsed.{Elapsed}
 use Rattle.text_report.specs.Events.{json_report}
-use Rattle.hirgrep_main.proofs.whole_report.report_json.Goals as goal
+use Rattle.hirgrep_main.proofs.inputs.whole_report.report_json.Goals as goal
 
 pub returns-in-Err-clause-part : goal.returns-in-Err-clause-part
 returns-in-Err-clause-part g c by =

@@ -4,7 +4,7 @@ use Rattle.json_events.specs.declared.elapsed.Elapsed.{Elapsed}
 use Rattle.json_events.specs.declared.stats.Stats.{Stats}
 use Rattle.text_report.specs.TextEvents.{json_of_text, json_text_stats}
 use Rattle.hirgrep_main.specs.Totals.{summed}
-use Rattle.hirgrep_main.proofs.whole_report.report_text_json.Goals as goal
+use Rattle.hirgrep_main.proofs.inputs.whole_report.report_text_json.Goals as goal
 
 pub returns-clause-written : goal.returns-clause-written
 returns-clause-written g c by =

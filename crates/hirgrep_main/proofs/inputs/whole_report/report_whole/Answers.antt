@@ -4,7 +4,7 @@ use Rattle.line_search.specs.Searchers.{SearchesFor}
 use Rattle.hirgrep_main.specs.Readings.{lists_in}
 use Rattle.hirgrep_main.specs.Tasks.{IsInputReported, body_count, patterns_by, report_by, whole_report_by}
 use Rattle.hirgrep_main.proofs.ReportLemmas.{same_as, whole_reported}
-use Rattle.hirgrep_main.proofs.whole_report.report_whole.Goals as goal
+use Rattle.hirgrep_main.proofs.inputs.whole_report.report_whole.Goals as goal
 
 pub returns-then-is_headed-clause-reported : goal.returns-then-is_headed-clause-reported
 returns-then-is_headed-clause-reported g c =

@@ -2,7 +2,7 @@ use Rattle.std.proofs.Common.{◌∙◌, ap, codes}
 use Rattle.clap.specs.Words.{first_value, found_of}
 use Rattle.hirgrep_main.specs.Asks.{devices_by}
 use Rattle.hirgrep_main.proofs.AskedLemmas.{same_asked}
-use Rattle.hirgrep_main.proofs.asked.asked_of.Goals as goal
+use Rattle.hirgrep_main.proofs.options.asked.asked_of.Goals as goal
 
 pub returns : goal.returns
 returns c =

@@ -2,7 +2,7 @@ use denote.Shadow.{shadow}
 use denote.Text.{Utf8}
 use Rattle.std.proofs.Common.{◌≡◌, ◌++◌, [], drop, string_bytes}
 use Rattle.hirgrep_main.specs.FileTypes.{rows_of, types_text}
-use Rattle.hirgrep_main.proofs.file_types.list_of_types.Given as goal
+use Rattle.hirgrep_main.proofs.options.file_types.list_of_types.Given as goal
 
 abbrev pub invariant-loop-row : goal.invariant-loop-row
 invariant-loop-row l = record {

@@ -1,7 +1,7 @@
 use Rattle.std.proofs.Common.{◌≡◌, ◌++◌, drop, map}
 use Rattle.globs.specs.Rules.{rule_of}
 use Rattle.hirgrep_main.specs.FileTypes.{of_type, rows_of, type_rules}
-use Rattle.hirgrep_main.proofs.file_types.push_type.Given as goal
+use Rattle.hirgrep_main.proofs.options.file_types.push_type.Given as goal
 
 abbrev pub invariant-loop-row : goal.invariant-loop-row
 invariant-loop-row l =

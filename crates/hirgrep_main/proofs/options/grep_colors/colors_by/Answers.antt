@@ -4,7 +4,7 @@ use Rattle.std.proofs.lemmas.Iterator.Consumers.{YieldsList-end}
 use Rattle.std.proofs.lemmas.Iterator.Splits.{YieldsList-from_str_split}
 use Rattle.hirgrep_main.specs.GrepColors.{after_items, codes_of}
 use Rattle.hirgrep_main.proofs.ColorLemmas.{next_both}
-use Rattle.hirgrep_main.proofs.grep_colors.colors_by.Goals as goal
+use Rattle.hirgrep_main.proofs.options.grep_colors.colors_by.Goals as goal
 
 pub returns : goal.returns
 returns c =

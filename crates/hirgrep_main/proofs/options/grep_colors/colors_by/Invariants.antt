@@ -1,7 +1,7 @@
 use Rattle.std.proofs.Common.{◌≡◌, map}
 use Rattle.std.specs.List.{list_any}
 use Rattle.hirgrep_main.specs.GrepColors.{after_items, codes_of, is_broken}
-use Rattle.hirgrep_main.proofs.grep_colors.colors_by.Given as goal
+use Rattle.hirgrep_main.proofs.options.grep_colors.colors_by.Given as goal
 
 abbrev pub invariant-loop-item : goal.invariant-loop-item
 invariant-loop-item l =

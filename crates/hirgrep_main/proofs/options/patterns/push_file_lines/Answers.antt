@@ -1,7 +1,7 @@
 use Rattle.std.proofs.Common.{◌∙◌, ◌++◌, map, string_bytes, ap}
 use Rattle.std.proofs.lemmas.Iterator.Consumers.{YieldsList-end}
 use Rattle.std.proofs.lemmas.Iterator.Splits.{YieldsList-from_lines}
-use Rattle.hirgrep_main.proofs.patterns.push_file_lines.Goals as goal
+use Rattle.hirgrep_main.proofs.options.patterns.push_file_lines.Goals as goal
 
 pub returns : goal.returns
 returns c =

@@ -1,5 +1,5 @@
 use Rattle.std.proofs.Common.{◌≡◌, ◌++◌, map, string_bytes}
-use Rattle.hirgrep_main.proofs.patterns.push_file_lines.Given as goal
+use Rattle.hirgrep_main.proofs.options.patterns.push_file_lines.Given as goal
 
 abbrev pub invariant-loop-line : goal.invariant-loop-line
 invariant-loop-line l =

@@ -1,7 +1,7 @@
 use Rattle.std.proofs.Common.{◌≡◌, ◌++◌, ℕ, List, length, map, string_bytes}
 use Rattle.std.specs.List.{flat_map}
 use Rattle.hirgrep_main.specs.Given.{patterns_of_file}
-use Rattle.hirgrep_main.proofs.patterns.push_files.Given as goal
+use Rattle.hirgrep_main.proofs.options.patterns.push_files.Given as goal
 
 abbrev pub invariant-loop-name : goal.invariant-loop-name
 invariant-loop-name l = (texts : List (List ℕ)) × (length texts ≡ l.name-index)

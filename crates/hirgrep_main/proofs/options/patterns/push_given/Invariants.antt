@@ -1,7 +1,7 @@
 use Rattle.std.proofs.Common.{◌≡◌, ◌++◌, map, string_bytes, take}
 use Rattle.std.specs.List.{flat_map}
 use Rattle.hirgrep_main.specs.Given.{lines_as_patterns}
-use Rattle.hirgrep_main.proofs.patterns.push_given.Given as goal
+use Rattle.hirgrep_main.proofs.options.patterns.push_given.Given as goal
 
 abbrev pub invariant-loop-text : goal.invariant-loop-text
 invariant-loop-text l =

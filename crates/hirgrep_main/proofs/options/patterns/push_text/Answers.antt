@@ -3,7 +3,7 @@ use Rattle.std.proofs.lemmas.Result.{on_ok_weaker}
 use Rattle.std.proofs.lemmas.Str.Pattern.{strip_suffix_char}
 use Rattle.hirgrep_main.proofs.GivenLemmas.{text_lines}
 use Rattle.hirgrep_main.specs.Given.{patterns_of_file}
-use Rattle.hirgrep_main.proofs.patterns.push_text.Goals as goal
+use Rattle.hirgrep_main.proofs.options.patterns.push_text.Goals as goal
 
 pub returns : goal.returns
 returns c =

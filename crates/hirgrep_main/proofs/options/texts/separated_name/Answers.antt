@@ -4,7 +4,7 @@ use Rattle.std.proofs.lemmas.Iterator.Consumers.{YieldsList-end}
 use Rattle.std.proofs.lemmas.Iterator.Splits.{YieldsList-from_str_split}
 use Rattle.hirgrep_main.specs.Texts.{joined_parts}
 use Rattle.hirgrep_main.proofs.NameLemmas.{next_joined}
-use Rattle.hirgrep_main.proofs.texts.separated_name.Goals as goal
+use Rattle.hirgrep_main.proofs.options.texts.separated_name.Goals as goal
 
 pub returns : goal.returns
 returns c =

@@ -1,7 +1,7 @@
 use Rattle.std.proofs.Common.{◌≡◌, map, string_bytes}
 use Rattle.hirgrep_main.specs.Texts.{joined_parts}
 use Rattle.hirgrep_main.proofs.NameLemmas.{is_none}
-use Rattle.hirgrep_main.proofs.texts.separated_name.Given as goal
+use Rattle.hirgrep_main.proofs.options.texts.separated_name.Given as goal
 
 abbrev pub invariant-loop-part : goal.invariant-loop-part
 invariant-loop-part l =

@@ -1,7 +1,7 @@
 use Rattle.std.proofs.Common.{◌≡◌, drop, map}
 use Rattle.hirgrep_main.specs.FileTypes.{rows_of}
 use Rattle.hirgrep_main.specs.TypeChanges.{are_definitions, with_definitions}
-use Rattle.hirgrep_main.proofs.type_changes.add_all.Given as goal
+use Rattle.hirgrep_main.proofs.options.type_changes.add_all.Given as goal
 
 abbrev pub invariant-loop-text : goal.invariant-loop-text
 invariant-loop-text l = record {

@@ -1,7 +1,7 @@
 use Rattle.std.proofs.Common.{◌∙◌, lit<}
 use Rattle.std.proofs.lemmas.Iterator.Consumers.{YieldsList-end}
 use Rattle.std.proofs.lemmas.Iterator.Splits.{YieldsList-from_str_split}
-use Rattle.hirgrep_main.proofs.type_changes.colon_parts.Goals as goal
+use Rattle.hirgrep_main.proofs.options.type_changes.colon_parts.Goals as goal
 
 pub returns : goal.returns
 returns c =

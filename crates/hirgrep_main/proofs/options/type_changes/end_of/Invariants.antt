@@ -1,7 +1,7 @@
 use Rattle.std.proofs.Common.{◌≡◌, ◌≤◌, drop, length}
 use Rattle.hirgrep_main.specs.FileTypes.{rows_of}
 use Rattle.hirgrep_main.specs.TypeChanges.{end_of}
-use Rattle.hirgrep_main.proofs.type_changes.end_of.Given as goal
+use Rattle.hirgrep_main.proofs.options.type_changes.end_of.Given as goal
 
 abbrev pub invariant-loop-at : goal.invariant-loop-at
 invariant-loop-at l = record {

@@ -1,6 +1,6 @@
 use Rattle.std.proofs.Common.{◌≡◌, ◌++◌, drop}
 use Rattle.hirgrep_main.specs.FileTypes.{of_type, rows_of}
-use Rattle.hirgrep_main.proofs.type_changes.push_of_type.Given as goal
+use Rattle.hirgrep_main.proofs.options.type_changes.push_of_type.Given as goal
 
 abbrev pub invariant-loop-row : goal.invariant-loop-row
 invariant-loop-row l =

@@ -3,7 +3,7 @@ use Rattle.std.proofs.lemmas.List.{drop-map, length-map, map-append, take-map}
 use Rattle.std.specs.Borrow.{Bor}
 use Rattle.hirgrep_main.specs.FileTypes.{row_of, rows_of}
 use Rattle.hirgrep_main.specs.TypeChanges.{end_of}
-use Rattle.hirgrep_main.proofs.type_changes.push_row.Goals as goal
+use Rattle.hirgrep_main.proofs.options.type_changes.push_row.Goals as goal
 
 inserted : (n : ℕ) (xs : List (Bor (List ℕ) × Bor (List ℕ))) (x : Bor (List ℕ) × Bor (List ℕ))
     → rows_of (take n xs ++ x ∷ drop n xs) ≡ take n (rows_of xs) ++ row_of x ∷ drop n (rows_of xs)

@@ -1,7 +1,7 @@
 use Rattle.std.proofs.Common.{◌≡◌, drop}
 use Rattle.hirgrep_main.specs.FileTypes.{rows_of}
 use Rattle.hirgrep_main.specs.TypeChanges.{with_rows}
-use Rattle.hirgrep_main.proofs.type_changes.push_rows.Given as goal
+use Rattle.hirgrep_main.proofs.options.type_changes.push_rows.Given as goal
 
 abbrev pub invariant-loop-row : goal.invariant-loop-row
 invariant-loop-row l =

@@ -1,7 +1,7 @@
 use Rattle.std.proofs.Common.{◌≡◌, ◌++◌, drop, map}
 use Rattle.hirgrep_main.specs.FileTypes.{rows_of}
 use Rattle.hirgrep_main.specs.TypeChanges.{types_kept}
-use Rattle.hirgrep_main.proofs.type_changes.types_kept.Given as goal
+use Rattle.hirgrep_main.proofs.options.type_changes.types_kept.Given as goal
 
 abbrev pub invariant-loop-row : goal.invariant-loop-row
 invariant-loop-row l =

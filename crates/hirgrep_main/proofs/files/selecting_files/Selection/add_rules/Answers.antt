@@ -5,7 +5,7 @@ use Rattle.grep_options.specs.FileOptions.{Given, file_values}
 use Rattle.hirgrep_main.specs.FileTypes.{rows_of}
 use Rattle.hirgrep_main.specs.Selecting.{gives_globs, gives_size, gives_types, names_rules}
 use Rattle.hirgrep_main.proofs.SureLemmas.{names_none, reads_globs}
-use Rattle.hirgrep_main.proofs.selecting_files.Selection.add_rules.Goals as goal
+use Rattle.hirgrep_main.proofs.files.selecting_files.Selection.add_rules.Goals as goal
 
 pub returns-then-not-branch-clause-sure : goal.returns-then-not-branch-clause-sure
 returns-then-not-branch-clause-sure c sure =

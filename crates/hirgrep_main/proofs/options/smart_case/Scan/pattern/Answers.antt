@@ -2,7 +2,7 @@ use Rattle.std.proofs.Common.{◌∙◌, ap, sym, map-id}
 use Rattle.std.proofs.lemmas.Iterator.{YieldsList-from_chars}
 use Rattle.std.proofs.lemmas.Iterator.Consumers.{YieldsList-end}
 use Rattle.hirgrep_main.specs.SmartCase.{next_pattern, scan_chars}
-use Rattle.hirgrep_main.proofs.smart_case.Scan.pattern.Goals as goal
+use Rattle.hirgrep_main.proofs.options.smart_case.Scan.pattern.Goals as goal
 
 pub returns : goal.returns
 returns c =
