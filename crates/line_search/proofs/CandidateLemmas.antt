@@ -330,11 +330,11 @@ line_tree_of xs block at place end =
     tree_of_line xs end.0 end.1.span.tree (slice_get xs end.0) refl (sym (slice_get-map (line_tree false) xs end.0) ∙ end.1.span.listed)
 
 -- a span that starts in a line and ends before the end of that line is one of the line
-match_here : (how : PatternOptions) (texts : List (List ℕ)) (p : BlockRegex) (block : List ℕ) (at start place : ℕ) →
-    (it : IsCandidatesOf how texts p) → how.crlf ≡ false →
-    All (λ b. b < 256) block → IsLineStart block start → start ≤ length block → (end : LineSpan (it.tree ∷ []) block at place) →
-    start ≤ end.1.start → HasNoFeedFrom block start place → HasMatchAt how texts block start
-match_here how texts p block at start place it lone bytes starts inside end from none len found res read =
+pub match_in : (how : PatternOptions) (texts : List (List ℕ)) (tree : Tree) (block : List ℕ) (start from place : ℕ) →
+    IsTreeOf how texts tree → has_crlf tree ≡ false → how.crlf ≡ false → All (λ b. b < 256) block → IsLineStart block start →
+    start ≤ length block → Means (looks_by is_word_char line_settings block) block (line_tree false tree) from place → start ≤ from →
+    HasNoFeedFrom block start place → HasMatchAt how texts block start
+match_in how texts tree block start from place mean plain lone bytes starts inside span after none len found res read =
     let text : List ℕ = drop start block in
     let feed : slice_get text len ≡ Some 10 = feed_there text len found in
     let few : len < length text = first_within text len found in
@@ -344,35 +344,45 @@ match_here how texts p block at start place it lone bytes starts inside end from
     let size : length (take len text) ≡ len = length-take-le len text (omega (arith, few)) in
     let whole : block ≡ block_of (take start block) (take len text) (drop len text) =
     sym (take-append-drop start block) ∙ ap (λ (t : List ℕ). take start block ++ t) (sym (take-append-drop len text)) in
-    let span = end.1.span in
-    let y = line_tree_of (it.tree ∷ []) block at place end in
-    let forward = span_forward (looks_by is_word_char line_settings block) block span.tree end.1.start place span.means in
+    let forward = span_forward (looks_by is_word_char line_settings block) block (line_tree false tree) from place span in
     let early : place ≤ start + len = not_past block start len place none feed in
-    let low : end.1.start ≡ length (take start block) + (end.1.start - start) = omega (arith, front, from) in
-    let high : place ≡ length (take start block) + (place - start) = omega (arith, front, from, forward) in
+    let low : from ≡ length (take start block) + (from - start) = omega (arith, front, after) in
+    let high : place ≡ length (take start block) + (place - start) = omega (arith, front, after, forward) in
     let short : place - start ≤ length (take len text) = omega (arith, early, size) in
-    let there : Means (looks_by is_word_char line_settings block) block (line_tree false y.0) (length (take start block) + (end.1.start -
-    start))
+    let there : Means (looks_by is_word_char line_settings block) block (line_tree false tree) (length (take start block) + (from - start))
     (length (take start block) + (place - start)) =
-    subst (λ t. Means (looks_by is_word_char line_settings block) block t (length (take start block) + (end.1.start - start))
-    (length (take start block) + (place - start))) (sym y.2)
-    (subst (λ j. Means (looks_by is_word_char line_settings block) block span.tree (length (take start block) + (end.1.start - start)) j)
-    high (subst (λ i. Means (looks_by is_word_char line_settings block) block span.tree i place) low span.means)) in
-    let here = subst (λ (h : List ℕ). Means (line_looks is_word_char h) h (line_tree false y.0)
-    (length (take start block) + (end.1.start - start)) (length (take start block) + (place - start)))
+    subst (λ j. Means (looks_by is_word_char line_settings block) block (line_tree false tree) (length (take start block) + (from - start)) j)
+    high (subst (λ i. Means (looks_by is_word_char line_settings block) block (line_tree false tree) i place) low span) in
+    let here = subst (λ (h : List ℕ). Means (line_looks is_word_char h) h (line_tree false tree)
+    (length (take start block) + (from - start)) (length (take start block) + (place - start)))
     whole there in
-    let means = means_in_line is_word_char (take start block) (take len text) (drop len text) y.0 word_set (record {
+    let means = means_in_line is_word_char (take start block) (take len text) (drop len text) tree word_set (record {
       starts = before_start block start starts;
       ends = inr (drop (suc len) text, cut);
       without_feed = without_feed text len found;
-    }) (plain_at (it.tree ∷ []) end.0 y.0 y.1 (all_one (λ z. has_crlf z ≡ false) it.tree it.plain))
-    (end.1.start - start) (place - start) short here in
-    has_of how texts it.tree res (take len text) it.mean read
+    }) plain (from - start) (place - start) short here in
+    has_of how texts tree res (take len text) mean read
     (All-left (λ b. b < 256) (take len text) (drop len text)
     (All-right (λ b. b < 256) (take start block) _ (subst (All (λ b. b < 256)) whole bytes)))
-    end.0 y.0 (end.1.start - start) (place - start) y.1 (omega (arith, forward, short)) short means
+    zero tree (from - start) (place - start) refl (omega (arith, forward, short)) short means
     (has_match_in how res (take len text)) refl
     ∙ sym (ap (λ v. has_match_in how res (searched v (ended (take len text)))) lone)
+
+-- the only tree of a list of one
+only_tree : (t : Tree) (p : ℕ) (x : Tree) → slice_get (t ∷ []) p ≡ Some x → x ≡ t
+only_tree t zero x listed = sym (same_Some t x listed)
+only_tree t (suc p) x listed = absurd (none-some x listed)
+
+-- and so is a span of the line tree of the patterns that ends a search
+match_here : (how : PatternOptions) (texts : List (List ℕ)) (p : BlockRegex) (block : List ℕ) (at start place : ℕ) →
+    (it : IsCandidatesOf how texts p) → how.crlf ≡ false →
+    All (λ b. b < 256) block → IsLineStart block start → start ≤ length block → (end : LineSpan (it.tree ∷ []) block at place) →
+    start ≤ end.1.start → HasNoFeedFrom block start place → HasMatchAt how texts block start
+match_here how texts p block at start place it lone bytes starts inside end from none =
+    let y = line_tree_of (it.tree ∷ []) block at place end in
+    match_in how texts it.tree block start end.1.start place it.mean it.plain lone bytes starts inside
+    (subst (λ t. Means (looks_by is_word_char line_settings block) block t end.1.start place)
+    (sym y.2 ∙ ap (line_tree false) (only_tree it.tree end.0 y.0 y.1)) end.1.span.means) from none
 
 -- a span without line feeds that ends in a line starts there
 starts_here : (xs : List Tree) (block : List ℕ) (at start place : ℕ) → All (λ x. reads_feed x ≡ false) xs →

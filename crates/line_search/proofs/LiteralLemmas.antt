@@ -1,21 +1,24 @@
 -- Lines without any of the literals have no match.
-use Rattle.std.proofs.Common.{◌≡◌, ◌≤◌, ◌<◌, inl, inr, ℕ, zero, suc, ◌-◌, true, false, List, ◌∷◌, All, length, slice_get, slice_range, []}
-use Rattle.std.proofs.Common.{Some, None, true≢false, refl, sym, subst, arith}
-use Rattle.std.proofs.lemmas.Bool.{cases_lt}
+use Rattle.std.proofs.Common.{◌≡◌, ◌≤◌, ◌<◌, inl, inr, ℕ, zero, suc, ◌-◌, Bool, true, false, List, ◌∷◌, All, length, slice_get, slice_range, []}
+use Rattle.std.proofs.Common.{◌+◌, Option, Some, None, true≢false, refl, sym, subst, arith, ◌∙◌}
+use Rattle.std.specs.Prelude.{IfSome}
+use Rattle.std.proofs.lemmas.Bool.{cases_lt, or_cases}
 use Rattle.std.proofs.lemmas.Option.{none-some, same_Some}
 use Rattle.ucd_perl.specs.Perl.{is_word_char}
-use Rattle.hir_core.specs.Tree.{Tree}
-use Rattle.hir_core.specs.Means.{Means}
+use Rattle.hir_core.specs.Tree.{Tree, empty, literal, byte_class, char_class, look, repetition, capture, nothing, cat, never, alt, concat}
+use Rattle.hir_core.specs.Means.{Looks, Means}
 use Rattle.hir_core.proofs.ForCallers.{span_forward}
-use Rattle.line_trees.specs.LineTrees.{line_tree}
+use Rattle.line_trees.specs.LineTrees.{line_tree, has_crlf, reads_feed, HasNoFeedFrom}
+use Rattle.line_trees.proofs.ForCallers.{feeds_kept, reads_none}
 use Rattle.earliest_ends.specs.Earliest.{looks_by}
 use Rattle.literal_search.specs.Searches.{EndsFrom, StartsNowhere, IsNextEnd}
 use Rattle.line_search.specs.declared.patterns.PatternOptions.{PatternOptions}
-use Rattle.line_search.specs.Candidates.{IsLineStart, IsNextLine, HaveNoMatch}
-use Rattle.line_search.specs.LiteralLines.{AreLiteralsOf}
+use Rattle.line_search.specs.BoundedTrees.{IsTreeOf}
+use Rattle.line_search.specs.Candidates.{IsLineStart, IsNextLine, HasMatchAt, HaveNoMatch}
+use Rattle.line_search.specs.LiteralLines.{AreLiteralsOf, HasStringsOf, SoughtLiterals, has_any_string_at, has_string_at}
 use Rattle.line_search.specs.Searchers.{line_settings}
 use Rattle.line_search.proofs.LineCutLemmas.{lines_between}
-use Rattle.line_search.proofs.CandidateLemmas.{EndNotBefore, have_none_of, line_starts_at, nothing_between}
+use Rattle.line_search.proofs.CandidateLemmas.{EndNotBefore, have_none_of, line_starts_at, match_in, nothing_between}
 
 -- ---- where no span ends
 not_before : (x : Tree) (block : List ℕ) (at k : ℕ) → EndsFrom x block at k → EndNotBefore (x ∷ []) block at k
@@ -32,8 +35,58 @@ nowhere x block at k none zero i j s =
     (subst (λ (t : Tree). Means (looks_by is_word_char line_settings block) block t i j) (sym (same_Some x s.tree s.listed)) s.means))
 nowhere x block at k none (suc p) i j s = absurd (none-some s.tree s.listed)
 
+-- ---- a string in a line
+-- a tree that is a concatenation has no strings
+pub none_of_concat : (h : List ℕ) (at : ℕ) (xs : List Tree) → has_string_at h at (concat xs) ≡ false
+none_of_concat h at [] = refl
+none_of_concat h at (x ∷ xs) = refl
+
+-- the haystack has a string of the tree: the line tree matches it
+string_meant : (looks : Looks) (h : List ℕ) (at : ℕ) (x : Tree) → has_string_at h at x ≡ true →
+    (end : ℕ) × Means looks h (line_tree false x) at end
+string_meant looks h at (literal bytes) there = (at + length bytes, (refl, there))
+string_meant looks h at (alt x y) there = elim (or_cases (has_string_at h at x) (has_string_at h at y) there) [
+  | inl one ↦ let it = string_meant looks h at x one in (it.0, inl it.1)
+  | inr other ↦ let it = string_meant looks h at y other in (it.0, inr it.1)
+]
+string_meant looks h at empty there = absurd (true≢false (sym there))
+string_meant looks h at (byte_class ranges) there = absurd (true≢false (sym there))
+string_meant looks h at (char_class ranges) there = absurd (true≢false (sym there))
+string_meant looks h at (look l) there = absurd (true≢false (sym there))
+string_meant looks h at (repetition min most greedy x) there = absurd (true≢false (sym there))
+string_meant looks h at (capture index name x) there = absurd (true≢false (sym there))
+string_meant looks h at nothing there = absurd (true≢false (sym there))
+string_meant looks h at (cat x y) there = absurd (true≢false (sym there))
+string_meant looks h at never there = absurd (true≢false (sym there))
+
+-- a line with a string of the tree has a match
+string_known : (how : PatternOptions) (texts : List (List ℕ)) (tree : Tree) (block : List ℕ) (start place : ℕ) →
+    IsTreeOf how texts tree → has_crlf tree ≡ false → how.crlf ≡ false → reads_feed tree ≡ false → All (λ b. b < 256) block →
+    IsLineStart block start → start ≤ length block → start ≤ place → HasNoFeedFrom block start place →
+    has_string_at block place tree ≡ true → HasMatchAt how texts block start
+string_known how texts tree block start place mean plain lone feedless bytes starts inside after none there =
+    let it = string_meant (looks_by is_word_char line_settings block) block place tree there in
+    let reads : reads_feed (line_tree false tree) ≡ false = feeds_kept false tree ∙ feedless in
+    match_in how texts tree block start place it.0 mean plain lone bytes starts inside it.1 after
+    (λ i low high feed. elim (cases_lt i place) [
+      | inl less ↦ none i low less feed
+      | inr over ↦
+          reads_none (looks_by is_word_char line_settings block) block (line_tree false tree) place it.0 reads it.1 i over high feed
+    ])
+
+known_by_string : (how : PatternOptions) (texts : List (List ℕ)) (tree : Tree) (o : Option Tree) (block : List ℕ) (start place : ℕ) →
+    IsTreeOf how texts tree → has_crlf tree ≡ false → IfSome o (HasStringsOf how tree) → All (λ b. b < 256) block →
+    IsLineStart block start → start ≤ length block → start ≤ place → HasNoFeedFrom block start place →
+    has_any_string_at block place o ≡ true → HasMatchAt how texts block start
+known_by_string how texts tree None block start place mean plain strings bytes starts inside after none there =
+    absurd (true≢false (sym there))
+known_by_string how texts tree (Some x) block start place mean plain strings bytes starts inside after none there =
+    string_known how texts tree block start place mean plain strings.lone strings.feedless bytes starts inside after none
+    (subst (λ t. has_string_at block place t ≡ true) strings.same there)
+
 -- ---- what is skipped
-module _ (how : PatternOptions) (texts literals : List (List ℕ)) (block : List ℕ) (at : ℕ) (it : AreLiteralsOf how texts literals)
+module _ (how : PatternOptions) (texts : List (List ℕ)) (sought : SoughtLiterals) (block : List ℕ) (at : ℕ)
+    (it : AreLiteralsOf how texts sought)
     (bytes : All (λ b. b < 256) block)
     (within : at ≤ length block)
     (start : IsLineStart block at) where
@@ -56,16 +109,22 @@ module _ (how : PatternOptions) (texts literals : List (List ℕ)) (block : List
     | inr over ↦ nothing_between how texts block at (length block) over
   ]
 
-  pub next_by_literals : (k next : ℕ) → IsNextEnd (line_tree how.crlf it.tree) block at (Some k) → at ≤ next → next ≤ length block →
-      (at < next → next ≤ k) → (at < next → slice_get block (next - 1) ≡ Some 10) →
-      IsNextLine how texts block at (record { start = next; has = false; passed = 0; gave_up = false })
-  next_by_literals k next ends from high fits feed = record {
+  pub next_by_literals : (k next : ℕ) (has : Bool) → IsNextEnd (line_tree how.crlf it.tree) block at (Some k) → at ≤ next →
+      next ≤ length block → (at < next → next ≤ k) → (at < next → slice_get block (next - 1) ≡ Some 10) → HasNoFeedFrom block next k →
+      has ≡ has_any_string_at block k sought.strings →
+      IsNextLine how texts block at (record { start = next; has = has; passed = 0; gave_up = false })
+  next_by_literals k next has ends from high fits feed none known = record {
     from = from;
     within = high;
     starts = λ below. line_starts_at block at next start from feed;
     passed = passed_up_to k next ends.2 high fits feed;
-    has = λ is. absurd (true≢false (sym is));
+    has = λ is.
+        known_by_string how texts it.tree sought.strings block next k it.mean it.plain it.strings bytes
+        (line_starts_at block at next start from feed) high (next_not_after fits) none (sym known ∙ is);
   }
+    where
+      next_not_after : (at < next → next ≤ k) → next ≤ k
+      next_not_after fits = elim (cases_lt at next) [ inl less ↦ fits less | inr over ↦ omega (arith, over, ends.0) ]
 
   pub none_by_literals : IsNextEnd (line_tree how.crlf it.tree) block at None →
       IsNextLine how texts block at (record { start = length block; has = false; passed = 0; gave_up = false })

@@ -77,9 +77,16 @@ impl Reached {
     pub(crate) fn here(start: usize) -> Reached
         ensures { result ≡ record { start = start; has = false; passed = 0; gave_up = false } }
     {
+        Reached::line(start, false)
+    }
+
+    /// The line that starts at this offset, and whether it is known to have a match.
+    pub(crate) fn line(start: usize, has: bool) -> Reached
+        ensures { result ≡ record { start = start; has = has; passed = 0; gave_up = false } }
+    {
         Reached {
             start,
-            has: false,
+            has,
             passed: 0,
             gave_up: false,
         }

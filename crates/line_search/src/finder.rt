@@ -39,7 +39,7 @@ pub struct Finder<'t> {
     with_matches: bool,
     slow: SlowSearch<'t>,
     /// The literals of which each match contains one, if useful ones are known.
-    literals: Option<LiteralLines>,
+    literals: Option<LiteralLines<'t>>,
     candidates: CandidateFinder<'t>,
     /// The size of the caches of the search of lines.
     line_size: Size,
@@ -236,7 +236,7 @@ impl<'t> Finder<'t> {
         ensures next { IfOk result (IsNextLine self.old.how self.old.texts block.now at) }
     {
         let skipped = self.skip_by_literals(block, at);
-        if at < skipped.start {
+        if at < skipped.start || skipped.has {
             return Ok(skipped);
         }
         if self.has_literal_at(at) {

@@ -29,6 +29,7 @@ mod replacing;
 mod searcher;
 mod sizes;
 mod slow_search;
+mod strings;
 
 pub use candidates::{Reached, line_start};
 pub use fault::Fault;

@@ -1,13 +1,14 @@
-//! Skips lines that have none of the literals of which every match contains one.
+//! Skips lines that have none of the literals of which every match contains one, and knows lines that have a match by a string in them.
 ghost use Rattle.std.specs.Prelude.{◌≡◌, ◌≤◌, ◌<◌, ℕ, List, length, IfSome};
 ghost use Rattle.line_search.specs.BoundedTrees.{IsTreeOf};
 ghost use Rattle.line_search.specs.Candidates.{IsLineStart, IsNextLine};
-ghost use Rattle.line_search.specs.LiteralLines.{AreLiteralsOf};
+ghost use Rattle.line_search.specs.LiteralLines.{AreLiteralsOf, has_any_string_at};
 ghost use Rattle.line_search.specs.declared.patterns.PatternOptions.{PatternOptions};
 
 use crate::candidates::{Reached, line_start};
 use crate::feeds::feed_at;
 use crate::searcher::see_bytes;
+use crate::strings::{has_string_at, strings_of};
 use hir_core::Hir;
 use line_trees::{has_crlf, line_tree};
 use literal_search::{CandidateFinder, Effort};
@@ -17,21 +18,28 @@ use std::marker::Model;
 /// How many skipped bytes make up for a candidate: the automata search about as many in the time that a search of one short line takes.
 const CANDIDATE: usize = 224;
 
-/// Literals of which each match of the patterns contains one, and a search for them. A contract sees it as the list of the literals.
+/// What makes up for a candidate whose line is known to have a match, since automata don't search it.
+const KNOWN: usize = 192;
+
+/// Literals of which each match of the patterns contains one, and a search for them. If the patterns are a few strings, a line with one of
+/// them is known to have a match.
 #[derive(Drop)]
-pub(crate) struct LiteralLines {
+pub(crate) struct LiteralLines<'t> {
     finder: CandidateFinder,
+    /// The tree of the patterns, if its strings show that a line has a match.
+    strings: Option<&'t Hir>,
     effort: Effort,
     /// The start of the line at which the last search for literals stopped.
     stopped: usize,
 }
 
-impl Model for LiteralLines {
-    ghost use Rattle.std.specs.Prelude.{ℕ, List};
+impl<'t> Model for LiteralLines<'t> {
+    ghost use Rattle.std.specs.Prelude.{option_map};
+    ghost use Rattle.line_search.specs.LiteralLines.{SoughtLiterals};
 
-    ghost Value = { List (List ℕ) };
+    ghost Value = { SoughtLiterals };
 
-    ghost view = { λ l. l.finder };
+    ghost view = { λ l. record { literals = l.finder; strings = option_map (λ x. x.now) l.strings } };
 }
 
 /// The offset after the line that starts at this offset: after its line feed, or at the end of the block.
@@ -47,10 +55,10 @@ pub(crate) fn line_end(block: &[u8], at: usize) -> usize
     }
 }
 
-impl LiteralLines {
+impl<'t> LiteralLines<'t> {
     /// The literals of the tree of the patterns. It returns `None` if no useful ones are known, if the tree has a look-around assertion
     /// about carriage returns, or if memory ran out.
-    pub(crate) fn new(alloc: Global, tree: &Hir, crlf: bool) -> Option<LiteralLines>
+    pub(crate) fn new(alloc: Global, tree: &'t Hir, crlf: bool) -> Option<LiteralLines<'t>>
         ensures { (how : PatternOptions) (texts : List (List ℕ)) → how.crlf ≡ crlf → IsTreeOf how texts tree.now →
             IfSome result (AreLiteralsOf how texts) }
     {
@@ -68,6 +76,7 @@ impl LiteralLines {
         };
         Some(LiteralLines {
             finder,
+            strings: strings_of(tree, crlf),
             effort: Effort::with_price(CANDIDATE),
             stopped: usize::MAX,
         })
@@ -85,8 +94,30 @@ impl LiteralLines {
         self.effort.pass(bytes);
     }
 
+    /// Whether a string of the patterns is at the offset where a search stopped. If so, its line has a match.
+    fn has_string_at(&self, block: &[u8], place: usize) -> bool
+        requires { place ≤ length block.now }
+        ensures { result ≡ has_any_string_at block.now place self.now.strings }
+    {
+        match self.strings {
+            Some(tree) => has_string_at(tree, block, place),
+            None => false,
+        }
+    }
+
+    /// Records that the search stopped in the line that starts at this offset, and whether the line is known to have a match.
+    fn stop_at(&mut self, start: usize, has: bool)
+        ensures { self.new ≡ self.old }
+    {
+        self.stopped = start;
+        if has {
+            self.effort.gain(KNOWN);
+        }
+    }
+
     /// Returns the start of the next line of a block that may have a match since the search for literals stops there, or the end of the
-    /// block if none may. If the search stopped in this line before, or doesn't pay, this is the line at `at`.
+    /// block if none may. The line is known to have a match if one of the strings of the patterns is there. If the search stopped in this line
+    /// before, or doesn't pay, this is the line at `at`.
     pub(crate) fn next_candidate(&mut self, block: &[u8], at: usize) -> Reached
         requires within { at ≤ length block.now }
         requires starts { IsLineStart block.now at }
@@ -101,8 +132,9 @@ impl LiteralLines {
         match self.finder.next_end(&mut self.effort, block, at) {
             Some(place) => {
                 let start = line_start(block, at, place);
-                self.stopped = start;
-                Reached::here(start)
+                let has = self.has_string_at(block, place);
+                self.stop_at(start, has);
+                Reached::line(start, has)
             }
             None => {
                 self.stopped = usize::MAX;

@@ -1,4 +1,5 @@
 use Rattle.std.proofs.Common.{List, Option, ℕ, sym, subst}
+use Rattle.hir_core.specs.Tree.{never}
 use Rattle.line_trees.specs.LineTrees.{line_tree}
 use Rattle.literal_search.specs.Searches.{IsContainedIn, IsNextEnd}
 use Rattle.line_search.specs.Candidates.{IsNextLine}
@@ -7,13 +8,14 @@ use Rattle.line_search.proofs.literal_lines.LiteralLines.next_candidate.Goals as
 
 pub returns-in-Some-clause-next : goal.returns-in-Some-clause-next
 returns-in-Some-clause-next c how texts it =
-    subst (IsNextLine how texts c.args.block.now c.args.at) (sym c.here-in-Some.ensures)
+    subst (IsNextLine how texts c.args.block.now c.args.at) (sym c.line.ensures)
     (next_by_literals how texts c.args.self.now c.args.block.now c.args.at it c.see_bytes.ensures c.requires.within c.requires.starts
-    c.in-Some.place c.line_start-start.result
+    c.in-Some.place c.line_start-start.result c.has_string_at-has.result
     (subst (λ (o : Option ℕ). IsNextEnd (line_tree how.crlf it.tree) c.args.block.now c.args.at o) c.in-Some.is
     (c.next_end.ensures (line_tree how.crlf it.tree)
     (subst (λ (ls : List (List ℕ)). IsContainedIn ls (line_tree how.crlf it.tree)) (sym c.self.view_is) it.contained)))
-    c.line_start-start.ensures.from c.line_start-start.ensures.within c.line_start-start.ensures.before c.line_start-start.ensures.starts)
+    c.line_start-start.ensures.from c.line_start-start.ensures.within c.line_start-start.ensures.before c.line_start-start.ensures.starts
+    c.line_start-start.ensures.last c.has_string_at-has.ensures)
 
 pub returns-in-None-clause-next : goal.returns-in-None-clause-next
 returns-in-None-clause-next c how texts it =
