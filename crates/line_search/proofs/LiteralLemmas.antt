@@ -1,11 +1,11 @@
 -- Lines without any of the literals have no match.
 use Rattle.std.proofs.Common.{◌≡◌, ◌≤◌, ◌<◌, inl, inr, ℕ, zero, suc, ◌-◌, Bool, true, false, List, ◌∷◌, All, length, slice_get, slice_range, []}
 use Rattle.std.proofs.Common.{◌+◌, Option, Some, None, true≢false, refl, sym, subst, arith, ◌∙◌}
-use Rattle.std.specs.Prelude.{IfSome}
+use Rattle.std.specs.Prelude.{IfSome, option_map}
 use Rattle.std.proofs.lemmas.Bool.{cases_lt, or_cases}
 use Rattle.std.proofs.lemmas.Option.{none-some, same_Some}
 use Rattle.ucd_perl.specs.Perl.{is_word_char}
-use Rattle.hir_core.specs.Tree.{Tree, empty, literal, byte_class, char_class, look, repetition, capture, nothing, cat, never, alt, concat}
+use Rattle.hir_core.specs.Tree.{Tree, empty, literal, byte_class, char_class, look, repetition, capture, nothing, cat, never, alt}
 use Rattle.hir_core.specs.Means.{Looks, Means}
 use Rattle.hir_core.proofs.ForCallers.{span_forward}
 use Rattle.line_trees.specs.LineTrees.{line_tree, has_crlf, reads_feed, HasNoFeedFrom}
@@ -15,7 +15,7 @@ use Rattle.literal_search.specs.Searches.{EndsFrom, StartsNowhere, IsNextEnd}
 use Rattle.line_search.specs.declared.patterns.PatternOptions.{PatternOptions}
 use Rattle.line_search.specs.BoundedTrees.{IsTreeOf}
 use Rattle.line_search.specs.Candidates.{IsLineStart, IsNextLine, HasMatchAt, HaveNoMatch}
-use Rattle.line_search.specs.LiteralLines.{AreLiteralsOf, HasStringsOf, SoughtLiterals, has_any_string_at, has_string_at}
+use Rattle.line_search.specs.LiteralLines.{AreLiteralsOf, HasStringsOf, has_any_string_at, has_string_at}
 use Rattle.line_search.specs.Searchers.{line_settings}
 use Rattle.line_search.proofs.LineCutLemmas.{lines_between}
 use Rattle.line_search.proofs.CandidateLemmas.{EndNotBefore, have_none_of, line_starts_at, match_in, nothing_between}
@@ -36,11 +36,6 @@ nowhere x block at k none zero i j s =
 nowhere x block at k none (suc p) i j s = absurd (none-some s.tree s.listed)
 
 -- ---- a string in a line
--- a tree that is a concatenation has no strings
-pub none_of_concat : (h : List ℕ) (at : ℕ) (xs : List Tree) → has_string_at h at (concat xs) ≡ false
-none_of_concat h at [] = refl
-none_of_concat h at (x ∷ xs) = refl
-
 -- the haystack has a string of the tree: the line tree matches it
 string_meant : (looks : Looks) (h : List ℕ) (at : ℕ) (x : Tree) → has_string_at h at x ≡ true →
     (end : ℕ) × Means looks h (line_tree false x) at end
@@ -74,19 +69,20 @@ string_known how texts tree block start place mean plain lone feedless bytes sta
           reads_none (looks_by is_word_char line_settings block) block (line_tree false tree) place it.0 reads it.1 i over high feed
     ])
 
-known_by_string : (how : PatternOptions) (texts : List (List ℕ)) (tree : Tree) (o : Option Tree) (block : List ℕ) (start place : ℕ) →
-    IsTreeOf how texts tree → has_crlf tree ≡ false → IfSome o (HasStringsOf how tree) → All (λ b. b < 256) block →
-    IsLineStart block start → start ≤ length block → start ≤ place → HasNoFeedFrom block start place →
-    has_any_string_at block place o ≡ true → HasMatchAt how texts block start
-known_by_string how texts tree None block start place mean plain strings bytes starts inside after none there =
-    absurd (true≢false (sym there))
-known_by_string how texts tree (Some x) block start place mean plain strings bytes starts inside after none there =
-    string_known how texts tree block start place mean plain strings.lone strings.feedless bytes starts inside after none
-    (subst (λ t. has_string_at block place t ≡ true) strings.same there)
+-- a fact about what is in an option, where a function gives its value
+pub some_mapped : {A B : Type 0} (f : A → B) (P : B → Type 0) (o : Option A) → IfSome o (λ x. P (f x)) → IfSome (option_map f o) P
+some_mapped f P None fact = tt
+some_mapped f P (Some x) fact = fact
+
+known_by_string : (how : PatternOptions) (texts : List (List ℕ)) (o : Option Tree) (block : List ℕ) (start place : ℕ) →
+    IfSome o (HasStringsOf how texts) → All (λ b. b < 256) block → IsLineStart block start → start ≤ length block → start ≤ place →
+    HasNoFeedFrom block start place → has_any_string_at block place o ≡ true → HasMatchAt how texts block start
+known_by_string how texts None block start place strings bytes starts inside after none there = absurd (true≢false (sym there))
+known_by_string how texts (Some x) block start place strings bytes starts inside after none there =
+    string_known how texts x block start place strings.mean strings.plain strings.lone strings.feedless bytes starts inside after none there
 
 -- ---- what is skipped
-module _ (how : PatternOptions) (texts : List (List ℕ)) (sought : SoughtLiterals) (block : List ℕ) (at : ℕ)
-    (it : AreLiteralsOf how texts sought)
+module _ (how : PatternOptions) (texts literals : List (List ℕ)) (block : List ℕ) (at : ℕ) (it : AreLiteralsOf how texts literals)
     (bytes : All (λ b. b < 256) block)
     (within : at ≤ length block)
     (start : IsLineStart block at) where
@@ -109,18 +105,18 @@ module _ (how : PatternOptions) (texts : List (List ℕ)) (sought : SoughtLitera
     | inr over ↦ nothing_between how texts block at (length block) over
   ]
 
-  pub next_by_literals : (k next : ℕ) (has : Bool) → IsNextEnd (line_tree how.crlf it.tree) block at (Some k) → at ≤ next →
+  pub next_by_literals : (k next : ℕ) (has : Bool) (o : Option Tree) → IfSome o (HasStringsOf how texts) → IsNextEnd (line_tree how.crlf it.tree) block at (Some k) → at ≤ next →
       next ≤ length block → (at < next → next ≤ k) → (at < next → slice_get block (next - 1) ≡ Some 10) → HasNoFeedFrom block next k →
-      has ≡ has_any_string_at block k sought.strings →
+      (has ≡ true → has_any_string_at block k o ≡ true) →
       IsNextLine how texts block at (record { start = next; has = has; passed = 0; gave_up = false })
-  next_by_literals k next has ends from high fits feed none known = record {
+  next_by_literals k next has o strings ends from high fits feed none known = record {
     from = from;
     within = high;
     starts = λ below. line_starts_at block at next start from feed;
     passed = passed_up_to k next ends.2 high fits feed;
     has = λ is.
-        known_by_string how texts it.tree sought.strings block next k it.mean it.plain it.strings bytes
-        (line_starts_at block at next start from feed) high (next_not_after fits) none (sym known ∙ is);
+        known_by_string how texts o block next k strings bytes
+        (line_starts_at block at next start from feed) high (next_not_after fits) none (known is);
   }
     where
       next_not_after : (at < next → next ≤ k) → next ≤ k

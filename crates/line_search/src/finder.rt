@@ -15,6 +15,8 @@ use crate::replacing::Replaced;
 use crate::searcher::{Searcher, SearcherError};
 use crate::sizes::Size;
 use crate::slow_search::SlowSearch;
+use crate::strings::strings_of;
+use hir_core::Hir;
 use search_types::{MatchError, MatchErrorKind, Span};
 use std::alloc::Global;
 use std::marker::Model;
@@ -39,7 +41,9 @@ pub struct Finder<'t> {
     with_matches: bool,
     slow: SlowSearch<'t>,
     /// The literals of which each match contains one, if useful ones are known.
-    literals: Option<LiteralLines<'t>>,
+    literals: Option<LiteralLines>,
+    /// The tree of the patterns, if a line with one of its strings is known to have a match.
+    strings: Option<&'t Hir>,
     candidates: CandidateFinder<'t>,
     /// The size of the caches of the search of lines.
     line_size: Size,
@@ -54,7 +58,7 @@ pub struct Finder<'t> {
 impl<'t> Model for Finder<'t> {
     ghost use Rattle.std.specs.Prelude.{◌≡◌, IfSome, true};
     ghost use Rattle.hir_core.specs.Facts.{LoopsRead};
-    ghost use Rattle.line_search.specs.LiteralLines.{AreLiteralsOf};
+    ghost use Rattle.line_search.specs.LiteralLines.{AreLiteralsOf, HasStringsOf};
     ghost use Rattle.line_search.specs.Searchers.{IsSearcherOf, Sought};
 
     ghost Value = { Sought };
@@ -65,7 +69,8 @@ impl<'t> Model for Finder<'t> {
         ((it : IsSearcherOf f.patterns.now.0 f.patterns.now.1 f.searcher.0) × (f.with_matches ≡ true → LoopsRead it.tree))
         × (f.slow ≡ f.patterns.now)
         × (f.candidates ≡ f.patterns.now)
-        × IfSome f.literals (AreLiteralsOf f.patterns.now.0 f.patterns.now.1) };
+        × IfSome f.literals (AreLiteralsOf f.patterns.now.0 f.patterns.now.1)
+        × IfSome f.strings (λ x. HasStringsOf f.patterns.now.0 f.patterns.now.1 x.now) };
 }
 
 /// Whether a search failed because it ran out of memory.
@@ -116,6 +121,7 @@ impl<'t> Finder<'t> {
             with_matches,
             slow: SlowSearch::new(patterns),
             literals,
+            strings: strings_of(tree, patterns.how().crlf),
             candidates,
             line_size: Size::first(),
             past_clears: 0,
@@ -184,10 +190,11 @@ impl<'t> Finder<'t> {
         ensures same { self.new ≡ self.old }
         ensures next { IsNextLine self.old.how self.old.texts block.now at result }
     {
+        let strings = self.strings;
         let Some(literals) = &mut self.literals else {
             return Reached::here(at);
         };
-        literals.next_candidate(block, at)
+        literals.next_candidate(block, at, strings)
     }
 
     /// Whether the last search for literals stopped in the line that starts at this offset.

@@ -2,13 +2,13 @@
 ghost use Rattle.std.specs.Prelude.{◌≡◌, ◌≤◌, ◌<◌, ℕ, List, length, IfSome};
 ghost use Rattle.line_search.specs.BoundedTrees.{IsTreeOf};
 ghost use Rattle.line_search.specs.Candidates.{IsLineStart, IsNextLine};
-ghost use Rattle.line_search.specs.LiteralLines.{AreLiteralsOf, has_any_string_at};
+ghost use Rattle.line_search.specs.LiteralLines.{AreLiteralsOf, HasStringsOf};
 ghost use Rattle.line_search.specs.declared.patterns.PatternOptions.{PatternOptions};
 
 use crate::candidates::{Reached, line_start};
 use crate::feeds::feed_at;
 use crate::searcher::see_bytes;
-use crate::strings::{has_string_at, strings_of};
+use crate::strings::has_any_string_at;
 use hir_core::Hir;
 use line_trees::{has_crlf, line_tree};
 use literal_search::{CandidateFinder, Effort};
@@ -21,25 +21,21 @@ const CANDIDATE: usize = 224;
 /// What makes up for a candidate whose line is known to have a match, since automata don't search it.
 const KNOWN: usize = 192;
 
-/// Literals of which each match of the patterns contains one, and a search for them. If the patterns are a few strings, a line with one of
-/// them is known to have a match.
+/// Literals of which each match of the patterns contains one, and a search for them. A contract sees it as the list of the literals.
 #[derive(Drop)]
-pub(crate) struct LiteralLines<'t> {
+pub(crate) struct LiteralLines {
     finder: CandidateFinder,
-    /// The tree of the patterns, if its strings show that a line has a match.
-    strings: Option<&'t Hir>,
     effort: Effort,
     /// The start of the line at which the last search for literals stopped.
     stopped: usize,
 }
 
-impl<'t> Model for LiteralLines<'t> {
-    ghost use Rattle.std.specs.Prelude.{option_map};
-    ghost use Rattle.line_search.specs.LiteralLines.{SoughtLiterals};
+impl Model for LiteralLines {
+    ghost use Rattle.std.specs.Prelude.{ℕ, List};
 
-    ghost Value = { SoughtLiterals };
+    ghost Value = { List (List ℕ) };
 
-    ghost view = { λ l. record { literals = l.finder; strings = option_map (λ x. x.now) l.strings } };
+    ghost view = { λ l. l.finder };
 }
 
 /// The offset after the line that starts at this offset: after its line feed, or at the end of the block.
@@ -55,10 +51,10 @@ pub(crate) fn line_end(block: &[u8], at: usize) -> usize
     }
 }
 
-impl<'t> LiteralLines<'t> {
+impl LiteralLines {
     /// The literals of the tree of the patterns. It returns `None` if no useful ones are known, if the tree has a look-around assertion
     /// about carriage returns, or if memory ran out.
-    pub(crate) fn new(alloc: Global, tree: &'t Hir, crlf: bool) -> Option<LiteralLines<'t>>
+    pub(crate) fn new(alloc: Global, tree: &Hir, crlf: bool) -> Option<LiteralLines>
         ensures { (how : PatternOptions) (texts : List (List ℕ)) → how.crlf ≡ crlf → IsTreeOf how texts tree.now →
             IfSome result (AreLiteralsOf how texts) }
     {
@@ -76,7 +72,6 @@ impl<'t> LiteralLines<'t> {
         };
         Some(LiteralLines {
             finder,
-            strings: strings_of(tree, crlf),
             effort: Effort::with_price(CANDIDATE),
             stopped: usize::MAX,
         })
@@ -94,17 +89,6 @@ impl<'t> LiteralLines<'t> {
         self.effort.pass(bytes);
     }
 
-    /// Whether a string of the patterns is at the offset where a search stopped. If so, its line has a match.
-    fn has_string_at(&self, block: &[u8], place: usize) -> bool
-        requires { place ≤ length block.now }
-        ensures { result ≡ has_any_string_at block.now place self.now.strings }
-    {
-        match self.strings {
-            Some(tree) => has_string_at(tree, block, place),
-            None => false,
-        }
-    }
-
     /// Records that the search stopped in the line that starts at this offset, and whether the line is known to have a match.
     fn stop_at(&mut self, start: usize, has: bool)
         ensures { self.new ≡ self.old }
@@ -116,14 +100,19 @@ impl<'t> LiteralLines<'t> {
     }
 
     /// Returns the start of the next line of a block that may have a match since the search for literals stops there, or the end of the
-    /// block if none may. The line is known to have a match if one of the strings of the patterns is there. If the search stopped in this line
-    /// before, or doesn't pay, this is the line at `at`.
-    pub(crate) fn next_candidate(&mut self, block: &[u8], at: usize) -> Reached
+    /// block if none may. The line is known to have a match if the search stops at one of the strings. If it stopped in this line before, or
+    /// doesn't pay, this is the line at `at`.
+    pub(crate) fn next_candidate(
+        &mut self,
+        block: &[u8],
+        at: usize,
+        strings: Option<&Hir>,
+    ) -> Reached
         requires within { at ≤ length block.now }
         requires starts { IsLineStart block.now at }
         ensures same { self.new ≡ self.old }
         ensures next { (how : PatternOptions) (texts : List (List ℕ)) → AreLiteralsOf how texts self.old →
-            IsNextLine how texts block.now at result }
+            IfSome strings.entry (λ x. HasStringsOf how texts x.now) → IsNextLine how texts block.now at result }
     {
         if self.stopped == at || !self.effort.pays() {
             return Reached::here(at);
@@ -132,7 +121,7 @@ impl<'t> LiteralLines<'t> {
         match self.finder.next_end(&mut self.effort, block, at) {
             Some(place) => {
                 let start = line_start(block, at, place);
-                let has = self.has_string_at(block, place);
+                let has = has_any_string_at(strings, block, place);
                 self.stop_at(start, has);
                 Reached::line(start, has)
             }

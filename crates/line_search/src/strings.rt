@@ -1,11 +1,12 @@
 //! Strings of a tree, which show that a line has a match without a search by automata.
-ghost use Rattle.std.specs.Prelude.{◌≡◌, ◌≤◌, ◌×◌, length, false, IfSome};
+ghost use Rattle.std.specs.Prelude.{◌≡◌, ◌≤◌, ℕ, List, length, option_map, true, IfSome};
 ghost use Rattle.hir_core.specs.Tree.{alternation};
-ghost use Rattle.line_trees.specs.LineTrees.{reads_feed};
-ghost use Rattle.line_search.specs.LiteralLines.{has_string_at};
+ghost use Rattle.line_search.specs.BoundedTrees.{IsTreeOf};
+ghost use Rattle.line_search.specs.LiteralLines.{HasStringsOf, has_any_string_at, has_string_at};
+ghost use Rattle.line_search.specs.declared.patterns.PatternOptions.{PatternOptions};
 
 use hir_core::{Hir, HirKind};
-use line_trees::reads_feed;
+use line_trees::{has_crlf, reads_feed};
 
 /// At most so many strings are compared with the bytes at which a search stops.
 const MOST_STRINGS: usize = 8;
@@ -22,9 +23,13 @@ fn is_few_strings(tree: &Hir) -> bool {
 /// The tree, if a line that has one of its strings has a match: the tree is one of a few strings, and consumes no line feed. Where a
 /// carriage return belongs to the end of a line, none is returned.
 pub(crate) fn strings_of(tree: &Hir, crlf: bool) -> Option<&Hir>
-    ensures { IfSome result (λ x. (x.now ≡ tree.now) × ((crlf ≡ false) × (reads_feed tree.now ≡ false))) }
+    ensures { (how : PatternOptions) (texts : List (List ℕ)) → how.crlf ≡ crlf → IsTreeOf how texts tree.now →
+        IfSome result (λ x. HasStringsOf how texts x.now) }
 {
     if crlf {
+        return None;
+    }
+    if has_crlf(tree) {
         return None;
     }
     if reads_feed(tree) {
@@ -36,11 +41,11 @@ pub(crate) fn strings_of(tree: &Hir, crlf: bool) -> Option<&Hir>
     None
 }
 
-/// Whether the haystack has a string of the tree at this offset.
+/// Whether the haystack is seen to have a string of the tree at this offset.
 #[cycle(has_string_at)]
 pub(crate) fn has_string_at(tree: &Hir, haystack: &[u8], at: usize) -> bool
     requires { at ≤ length haystack.now }
-    ensures { result ≡ has_string_at haystack.now at tree.now }
+    ensures { result ≡ true → has_string_at haystack.now at tree.now ≡ true }
 {
     match tree.kind() {
         HirKind::Literal(bytes) => haystack[at..].starts_with(bytes),
@@ -49,11 +54,11 @@ pub(crate) fn has_string_at(tree: &Hir, haystack: &[u8], at: usize) -> bool
     }
 }
 
-/// Whether it has a string of one of the trees there.
+/// Whether it is seen to have a string of one of the trees there.
 #[cycle(has_string_at)]
 fn any_has_string_at(trees: &[Hir], haystack: &[u8], at: usize) -> bool
     requires { at ≤ length haystack.now }
-    ensures { result ≡ has_string_at haystack.now at (alternation trees.now) }
+    ensures { result ≡ true → has_string_at haystack.now at (alternation trees.now) ≡ true }
 {
     for tree in trees {
         if has_string_at(tree, haystack, at) {
@@ -61,4 +66,15 @@ fn any_has_string_at(trees: &[Hir], haystack: &[u8], at: usize) -> bool
         }
     }
     false
+}
+
+/// Whether the haystack is seen to have a string of the tree at this offset, if there is a tree.
+pub(crate) fn has_any_string_at(strings: Option<&Hir>, haystack: &[u8], at: usize) -> bool
+    requires { at ≤ length haystack.now }
+    ensures { result ≡ true → has_any_string_at haystack.now at (option_map (λ x. x.now) strings.entry) ≡ true }
+{
+    match strings {
+        Some(tree) => has_string_at(tree, haystack, at),
+        None => false,
+    }
 }

@@ -11,7 +11,7 @@ any_has_string_at-has_string_at-requires t c = (
   c.requires,
 )
 
-pub has_string_at-any_has_string_at-requires-in-Alternation : goal.has_string_at-any_has_string_at-requires-in-Alternation
-has_string_at-any_has_string_at-requires-in-Alternation t c =
+pub has_string_at-any_has_string_at-requires : goal.has_string_at-any_has_string_at-requires
+has_string_at-any_has_string_at-requires t c =
     let is = ap alternation c.deref-in-Alternation.ensures.value ∙ sym (ap node c.in-Alternation.is) ∙ c.kind.ensures.is in
     (omega (arith, weight_of_either c.deref-in-Alternation.result.now, ap weight is), c.requires)

@@ -13,6 +13,7 @@ invariant_of-self c = (
   c.self.invariant.1,
   c.self.invariant.2,
   c.self.invariant.3,
+  c.self.invariant.4,
 )
 
 pub invariant_of-self-2 : goal.invariant_of-self-2
@@ -22,6 +23,7 @@ invariant_of-self-2 c = (
   c.self.invariant.1,
   c.self.invariant.2,
   c.self.invariant.3,
+  c.self.invariant.4,
 )
 
 pub returns-clause-reported : goal.returns-clause-reported

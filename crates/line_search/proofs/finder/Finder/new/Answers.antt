@@ -11,6 +11,8 @@ invariant_of-result c = (
   c.new-candidates.ensures,
   c.new-literals.ensures c.args.patterns.now.0 c.args.patterns.now.1 (ap (λ (h : PatternOptions). h.crlf) (sym c.how.ensures))
       c.in-Ok.ensures.tree,
+  c.strings_of.ensures c.args.patterns.now.0 c.args.patterns.now.1 (ap (λ (h : PatternOptions). h.crlf) (sym c.how-2.ensures))
+      c.in-Ok.ensures.tree,
 )
 
 pub returns-clause-searches : goal.returns-clause-searches
