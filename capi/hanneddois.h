@@ -298,6 +298,35 @@ hanneddois_status hanneddois_captures_all(
     size_t *count,
     hanneddois_error *error);
 
+/*
+ * The next matches from *from on, with the offsets of their groups, as many as there is room for: a list in pieces. Each is the
+ * leftmost match from the end of the one before it, or from the offset after that if that one is empty. So an empty match right
+ * at the end of the one before it is listed too; without these the list is that of hanneddois_captures_all. No match starts
+ * after the haystack. Rows and slots are those of hanneddois_captures_all, and matches_length is at least 1:
+ *
+ *     size_t from = 0, count;
+ *     do {
+ *         hanneddois_captures_next(&regex, haystack, length, &from, matches, 100, slots, 100 * width, width, &count, &error);
+ *         use matches[0] .. matches[count - 1];
+ *     } while (count == 100);
+ *
+ * Writes to *count how many matches there are, and to *from where the following call goes on. If *count is below
+ * matches_length, no match follows. Returns HANNEDDOIS_OK if there is any, HANNEDDOIS_NONE and a count of 0, or an error. After
+ * an error *count is the number of matches before the search that failed, these are written with their slots, and *from is where
+ * that search begins. If matches_length is 0, or slots_length isn't matches_length * width, the call returns
+ * HANNEDDOIS_BAD_ARGUMENT. With that *count is 0, and *from is unchanged. Rows after the last match are unchanged, and so are
+ * their slots; only after an error the slots of the next match may be HANNEDDOIS_NO_OFFSET. With HANNEDDOIS_UTF8 each call checks
+ * the whole haystack. Matches have the preferred end also with HANNEDDOIS_EMPTY_LOOPS.
+ */
+hanneddois_status hanneddois_captures_next(
+    hanneddois_regex *regex,
+    const uint8_t *haystack, size_t haystack_length,
+    size_t *from,
+    hanneddois_match *matches, size_t matches_length,
+    size_t *slots, size_t slots_length, size_t width,
+    size_t *count,
+    hanneddois_error *error);
+
 /* Flags of hanneddois_replace_all. */
 enum {
     /* The replacement is written as it is: a dollar sign in it has no meaning. */

@@ -422,6 +422,23 @@ public:
     std::optional<match_groups> captures(String &&haystack, Rest &&...) = delete;
 
     /*
+     * The next matches from an offset on with their groups, at most so many, as hanneddois_captures_next lists them: an empty
+     * one right at the end of the one before it too. `from` is then the offset from which the following call goes on. If there
+     * are fewer matches than `most`, none follows. If a search fails, the first form throws and leaves `from` as it was. The
+     * second returns the matches before that search.
+     */
+    std::vector<match_groups> captures_next(std::string_view haystack, std::size_t &from, std::size_t most)
+    {
+        return next_or(haystack, from, most, nullptr);
+    }
+    std::vector<match_groups> captures_next(std::string_view haystack, std::size_t &from, std::size_t most, failure &why) noexcept
+    {
+        return next_or(haystack, from, most, &why);
+    }
+    template <class String, class... Rest, detail::if_temporary_string<String> = 0>
+    std::vector<match_groups> captures_next(String &&haystack, Rest &&...) = delete;
+
+    /*
      * The haystack with its matches replaced, or with the first `limit` of them if that isn't 0. In a template $1, $name and
      * ${name} stand for groups of the match, and $$ for a dollar sign, as hanneddois_replace_all has them. With
      * replace_all_literal the replacement has no such meaning. If the call fails, the result is empty.
@@ -688,6 +705,35 @@ private:
                 return listed;
             room = listed.count;
         }
+    }
+
+    /* A haystack has at most one match at each of its offsets. */
+    std::vector<match_groups> list_next(std::string_view haystack, std::size_t &from, std::size_t most, failure *why)
+    {
+        const std::size_t width = slot_count(), room = std::min(most, haystack.size() + 2);
+        const std::unique_ptr<hanneddois_match[]> rows(new hanneddois_match[std::max(room, std::size_t{1})]);
+        const std::unique_ptr<std::size_t[]> slots(new std::size_t[std::max(room * width, std::size_t{1})]);
+        std::size_t next = from, count = 0;
+        hanneddois_error error;
+        hanneddois_captures_next(&handle_, detail::bytes_of(haystack), haystack.size(), &next, rows.get(), room, slots.get(),
+                                 room * width, width, &count, &error);
+        std::vector<match_groups> found;
+        found.reserve(count);
+        for (std::size_t i = 0; i < count; i++)
+            found.push_back(groups_of(haystack, rows[i], slots.get() + i * width));
+        detail::report(failure(error), why);
+        from = next;
+        return found;
+    }
+
+    std::vector<match_groups> next_or(std::string_view haystack, std::size_t &from, std::size_t most, failure *why)
+    {
+        try {
+            return list_next(haystack, from, most, why);
+        } catch (const std::bad_alloc &) {
+            detail::report(detail::failure_of(status::no_memory), why);
+        }
+        return {};
     }
 
     std::vector<match> find_all_or(std::string_view haystack, failure *why)

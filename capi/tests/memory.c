@@ -163,6 +163,29 @@ static hanneddois_status captures_all(hanneddois_regex *regex)
     return status;
 }
 
+/* After an error the search goes on where it failed. */
+static hanneddois_status captures_next(hanneddois_regex *regex)
+{
+    hanneddois_match rows[3];
+    size_t count = 7, from = 0, slots[12];
+    memset(rows, 0x55, sizeof rows);
+    memset(slots, 0x55, sizeof slots);
+    hanneddois_status status = hanneddois_captures_next(regex, haystack, length, &from, rows, 3, slots, 12, 4, &count, &error);
+    CHECK(status == HANNEDDOIS_OK ? count == 3 : count <= 3);
+    CHECK(from == (count ? starts[count - 1] + 1 : 0));
+    for (size_t i = 0; i < 3; i++) {
+        const size_t *own = slots + 4 * i;
+        if (i < count) {
+            CHECK(rows[i].pattern == 0 && rows[i].start == starts[i] && rows[i].end == starts[i] + 1);
+            CHECK(own[0] == starts[i] && own[1] == starts[i] + 1 && own[2] == HANNEDDOIS_NO_OFFSET && own[3] == HANNEDDOIS_NO_OFFSET);
+        } else {
+            CHECK(rows[i].start == (size_t)0x5555555555555555);
+            CHECK(own[0] == (size_t)0x5555555555555555 || (i == count && own[0] == HANNEDDOIS_NO_OFFSET));
+        }
+    }
+    return status;
+}
+
 /* After an error nothing is written. Each match, a k, is replaced by two. */
 static hanneddois_status replace_all(hanneddois_regex *regex)
 {
@@ -394,6 +417,7 @@ int main(void)
     each_fails(make_with_groups, 1);
     each_fails(captures, 0);
     each_fails(captures_all, 0);
+    each_fails(captures_next, 0);
     each_fails(replace_all, 0);
     each_fails(is_match, 0);
     each_fails(find_at, 0);

@@ -403,6 +403,75 @@ static void all_groups(void)
     hanneddois_free(&regex);
 }
 
+/* A list in pieces. With the empty matches right at the end of another one, it is as that of Python's re. */
+static void next_groups(void)
+{
+    hanneddois_regex regex = HANNEDDOIS_EMPTY;
+    hanneddois_options options = {0};
+    hanneddois_match rows[4];
+    size_t slots[24], count = 7, from = 0;
+    const size_t untouched = (size_t)0x5555555555555555;
+    CHECK(make(&regex, "(a)|([0-9])(?:-([0-9]))?", &options) == HANNEDDOIS_OK);
+    memset(rows, 0x55, sizeof rows);
+    memset(slots, 0x55, sizeof slots);
+    /* The rows are full, and then no match follows. */
+    CHECK(hanneddois_captures_next(&regex, bytes("a 1-2 3"), 7, &from, rows, 2, slots, 12, 6, &count, &error) == HANNEDDOIS_OK && count == 2 && from == 5);
+    CHECK(rows[0].end == 1 && rows[1].start == 2 && rows[1].end == 5 && rows[2].start == untouched && slots[12] == untouched);
+    CHECK(slots[0] == 0 && slots[3] == 1 && slots[4] == HANNEDDOIS_NO_OFFSET && slots[6] == 2 && slots[8] == HANNEDDOIS_NO_OFFSET && slots[11] == 3);
+    CHECK(hanneddois_captures_next(&regex, bytes("a 1-2 3"), 7, &from, rows, 2, slots, 12, 6, &count, &error) == HANNEDDOIS_OK && count == 1 && from == 7);
+    CHECK(rows[0].start == 6 && rows[0].end == 7 && rows[1].end == 5 && slots[4] == 6 && slots[6] == 2);
+    CHECK(hanneddois_captures_next(&regex, bytes("a 1-2 3"), 7, &from, rows, 2, slots, 12, 6, &count, &error) == HANNEDDOIS_NONE && count == 0 && from == 7);
+    CHECK(rows[0].start == 6 && slots[4] == 6 && error.status == HANNEDDOIS_NONE);
+    /* Without slots, and from an offset that looks see. */
+    from = 3;
+    CHECK(hanneddois_captures_next(&regex, bytes("a 1-2 3"), 7, &from, rows, 4, slots, 0, 0, &count, &error) == HANNEDDOIS_OK && count == 2 && from == 7);
+    CHECK(rows[0].start == 4 && rows[1].start == 6);
+
+    /* No row, slots that don't fill the rows, and an empty handle. */
+    memset(rows, 0x55, sizeof rows);
+    memset(slots, 0x55, sizeof slots);
+    static const size_t wrong[][3] = {{0, 0, 6}, {0, 0, 0}, {2, 11, 6}, {2, 13, 6}, {2, 0, 6}, {2, 2, 0}, {4, 0, SIZE_MAX / 4 + 1}};
+    for (size_t i = 0; i < sizeof wrong / sizeof wrong[0]; i++) {
+        count = 7;
+        from = 1;
+        CHECK(hanneddois_captures_next(&regex, bytes("a 1"), 3, &from, rows, wrong[i][0], slots, wrong[i][1], wrong[i][2], &count, &error) ==
+              HANNEDDOIS_BAD_ARGUMENT);
+        CHECK(count == 0 && from == 1 && error.status == HANNEDDOIS_BAD_ARGUMENT && rows[0].start == untouched && slots[0] == untouched);
+    }
+    hanneddois_free(&regex);
+    count = 7;
+    CHECK(hanneddois_captures_next(&regex, bytes("a 1"), 3, &from, rows, 2, slots, 12, 6, &count, &error) == HANNEDDOIS_BAD_ARGUMENT);
+    CHECK(count == 0 && from == 1 && rows[0].start == untouched && slots[0] == untouched);
+
+    /* Empty matches, also one right at the end of another one, and one at the end of the haystack. */
+    CHECK(make(&regex, "(x?)", &options) == HANNEDDOIS_OK);
+    from = 0;
+    CHECK(hanneddois_captures_next(&regex, bytes("axb"), 3, &from, rows, 3, slots, 12, 4, &count, &error) == HANNEDDOIS_OK && count == 3 && from == 3);
+    CHECK(rows[0].end == 0 && rows[1].start == 1 && rows[1].end == 2 && rows[2].start == 2 && rows[2].end == 2 && slots[6] == 1 && slots[7] == 2);
+    CHECK(hanneddois_captures_next(&regex, bytes("axb"), 3, &from, rows, 1, slots, 4, 4, &count, &error) == HANNEDDOIS_OK && count == 1 && from == 4);
+    CHECK(rows[0].start == 3 && rows[0].end == 3);
+    static const size_t after[] = {4, 5, SIZE_MAX};
+    for (size_t i = 0; i < 3; i++) {
+        from = after[i];
+        CHECK(hanneddois_captures_next(&regex, bytes("axb"), 3, &from, rows, 1, slots, 4, 4, &count, &error) == HANNEDDOIS_NONE && count == 0);
+        CHECK(from == after[i]);
+    }
+    options.flags = HANNEDDOIS_UTF8;
+    CHECK(make(&regex, "(.)", &options) == HANNEDDOIS_OK);
+    count = 7;
+    from = 1;
+    CHECK(hanneddois_captures_next(&regex, bytes("ab\xff"), 3, &from, rows, 3, slots, 12, 4, &count, &error) == HANNEDDOIS_HAYSTACK_NOT_UTF8);
+    CHECK(count == 0 && from == 1 && error.start == 2);
+
+    /* The preferred ends whatever loops consume. */
+    options.flags = HANNEDDOIS_EMPTY_LOOPS;
+    CHECK(make(&regex, "(a*)*b|c", &options) == HANNEDDOIS_OK);
+    from = 0;
+    CHECK(hanneddois_captures_next(&regex, bytes("xaabcab"), 7, &from, rows, 4, slots, 16, 4, &count, &error) == HANNEDDOIS_OK && count == 3 && from == 7);
+    CHECK(rows[0].start == 1 && rows[0].end == 4 && rows[1].start == 4 && rows[2].start == 5 && rows[2].end == 7);
+    hanneddois_free(&regex);
+}
+
 /* A call that replaces matches, with as much room as is given, which is followed by bytes that no call may write. */
 static uint8_t output[64];
 static size_t length, count;
@@ -485,6 +554,7 @@ int main(void)
     empty_handles();
     groups();
     all_groups();
+    next_groups();
     replaced();
     clones();
     refusals();

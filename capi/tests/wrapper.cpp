@@ -299,6 +299,16 @@ static void captures_are_listed()
     for (const match_groups &found : several.captures_iter("xbcaz"))
         numbers += std::to_string(found.pattern()) + std::to_string(found.size());
     CHECK(numbers == "130221");
+    std::size_t from = 0;
+    CHECK(pair.captures_next("a=b c= d", from, 1).front().view("key") == "a" && from == 3);
+    CHECK(pair.captures_next("a=b c= d", from, 2).front().view("key") == "c" && from == 6);
+    CHECK(pair.captures_next("a=b c= d", from, 2).empty() && from == 6);
+    from = 0;
+    const std::vector<match_groups> adjacent = nothing.captures_next("axb", from, 9);
+    CHECK(adjacent.size() == 4 && adjacent[2].start() == 2 && adjacent[2].end() == 2 && adjacent[3].start() == 3 && from == 4);
+    from = 0;
+    CHECK(text.captures_next("ab\xff", from, 9, why).empty() && why.status() == status::haystack_not_utf8 && from == 0);
+    CHECK_THROWS(text.captures_next("ab", from, 0), error.status() == status::bad_argument);
     static_assert(std::is_same_v<std::iterator_traits<hanneddois::captures_iterator>::value_type, match_groups>);
 #if defined(__cpp_lib_ranges)
     static_assert(std::ranges::input_range<hanneddois::captures_range>);

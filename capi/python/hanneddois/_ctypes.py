@@ -25,6 +25,8 @@ _FEW_BYTES = 4096
 
 # The offset of a group that took no part.
 _NO_OFFSET = ctypes.c_size_t(-1).value
+# An iterator searches ahead by so many matches, and by twice as many each time.
+_LEAST_ROWS, _MOST_ROWS = 8, 512
 
 
 class _Handle(ctypes.Structure):
@@ -71,6 +73,8 @@ def _declare(library):
         ("group_count", size, handle, size),
         ("group_name", size, handle, size, size, ctypes.POINTER(ctypes.c_char), size),
         ("captures", word, handle, address, size, size, ctypes.POINTER(_Row), ctypes.POINTER(size), size, failure),
+        ("captures_next", word, handle, address, size, ctypes.POINTER(size), ctypes.POINTER(_Row), size, ctypes.POINTER(size), size, size,
+         ctypes.POINTER(size), failure),
         ("error_text", size, failure, ctypes.POINTER(ctypes.c_char), size),
         ("memory_usage", size, handle),
         ("clear_count", size, handle),
@@ -520,10 +524,7 @@ class Matcher:
 
         An empty match right at the end of the one before it is skipped."""
         haystack = self._open(haystack).cut(start, end)
-        if haystack.is_empty:
-            return iter(())
-        rows = self._list(haystack) if haystack.start == 0 and not self._has_empty_loops else self._scan(haystack, lists_all=False)
-        return (self._make_match(haystack, row) for row, _ in rows)
+        return (self._make_match(haystack, row) for row, _ in self._scan(haystack, lists_all=False))
 
     def finditer(self, string, pos=0, endpos=sys.maxsize):
         """find_iter as re has it: an empty match right at the end of another one is listed too."""
@@ -531,33 +532,24 @@ class Matcher:
         return (self._make_match(haystack, row) for row, _ in self._scan(haystack))
 
     def _scan(self, haystack, width=0, lists_all=True):
-        """The matches from the start on, one by one, as `_find_from` returns them."""
+        """The matches from the start on, each a tuple of its row and its slots. They are found some at a time. An empty match inside a
+        character of a str doesn't count, nor one right at the end of the last one, unless all are listed."""
         self._check_utf8(haystack)
-        offset, last_end = haystack.start, None
-        while offset <= haystack.length and not haystack.is_empty:
-            found = self._find_from(haystack, offset, width)
-            if found is None:
+        offset, count, last_end, room = ctypes.c_size_t(haystack.start), ctypes.c_size_t(), None, _LEAST_ROWS
+        while not haystack.is_empty:
+            rows, slots = (_Row * room)(), (ctypes.c_size_t * (room * width))()
+            status, failure = self._search(haystack, "hanneddois_captures_next", offset, rows, room, slots, room * width, width, count)
+            found = count.value
+            for i, row in enumerate(struct.iter_unpack("NNN", memoryview(rows).cast("B")[: found * ctypes.sizeof(_Row)])):
+                _, start, end = row
+                if start == end and (haystack.is_inside_character(start) or (end == last_end and not lists_all)):
+                    continue
+                last_end = end
+                yield row, slots[i * width : (i + 1) * width]
+            self._is_found(status, failure)
+            if found < room:
                 return
-            _, start, end = found[0]
-            is_skipped = start == end == last_end and not lists_all
-            if not is_skipped:
-                yield found
-            offset = end + (is_skipped or (start == end and lists_all))
-            last_end = end
-
-    def _list(self, haystack):
-        """All matches, by one search."""
-        room, count, is_utf8 = 64 + haystack.length // 128, ctypes.c_size_t(), self._checks(haystack)
-        while True:
-            rows = (_Row * room)()
-            status, failure = self._search(haystack, "hanneddois_find_all", rows, room, count, is_utf8=is_utf8)
-            if count.value <= room:
-                break
-            room = count.value
-        for row in struct.iter_unpack("NNN", memoryview(rows).cast("B")[: count.value * ctypes.sizeof(_Row)]):
-            if not haystack.is_inside_character(row[1]):
-                yield row, ()
-        self._is_found(status, failure)
+            room = min(2 * room, _MOST_ROWS)
 
     def find_all(self, haystack, start=0, end=sys.maxsize):
         """The list of the matches of find_iter."""

@@ -949,24 +949,47 @@ static int want_groups(Scan *scan)
     return 0;
 }
 
+/* Whether a match doesn't count: an empty one inside a character of a str, and, unless all are listed, one right at the end of the last. */
+static inline int is_skipped(const Scan *scan, const hanneddois_match *row)
+{
+    return (row->end == scan->last_end && !scan->lists_all) || (scan->haystack.is_utf8 && is_inside_character(&scan->haystack, row->start));
+}
+
+/* Moves a match that was found ahead, with its slots, to an earlier row. */
+static __attribute__((noinline)) void move_row(Scan *scan, size_t to, size_t from)
+{
+    scan->rows[to] = scan->rows[from];
+    if (scan->width)
+        memcpy(scan->slots + to * scan->width, scan->slots + from * scan->width, scan->width * sizeof *scan->slots);
+}
+
+/* Drops the matches that don't count, and returns how many are left. Only empty ones don't. */
+static size_t drop_skipped(Scan *scan, size_t found)
+{
+    size_t count = 0;
+    for (size_t i = 0; i < found; i++) {
+        const hanneddois_match *row = &scan->rows[i];
+        if (row->start == row->end && is_skipped(scan, row))
+            continue;
+        scan->last_end = row->end;
+        if (count < i)
+            move_row(scan, count, i);
+        count++;
+    }
+    return count;
+}
+
 /* Finds the next matches, as many as there is room for, and returns how many. The count of the scan stays 0 meanwhile, since other threads
    may read it. */
 static size_t find_some(Scan *scan, Search *search)
 {
-    size_t count = 0;
-    while (count < scan->room) {
-        hanneddois_match *row = &scan->rows[count];
-        Query query = {scan->from, scan->width ? scan->slots + count * scan->width : (size_t *)row, scan->width};
-        scan->status = scan->from > scan->haystack.length ? HANNEDDOIS_NONE
-                                                          : find_from(scan->matcher, search, &scan->haystack, query, row, &scan->error);
-        if (scan->status != HANNEDDOIS_OK)
-            break;
-        int is_empty = row->start == row->end, is_skipped = is_empty && row->end == scan->last_end && !scan->lists_all;
-        scan->from = row->end + (is_skipped || (is_empty && scan->lists_all));
-        scan->last_end = row->end;
-        count += !is_skipped;
-    }
-    return count;
+    const Haystack *haystack = &scan->haystack;
+    size_t found, *slots = scan->width ? scan->slots : (size_t *)scan->rows;
+    scan->status = hanneddois_captures_next(&search->handle, haystack->bytes, haystack->length, &scan->from, scan->rows, scan->room, slots,
+                                            scan->room * scan->width, scan->width, &found, &scan->error);
+    if (!is_failure(scan->status))
+        scan->status = found < scan->room ? HANNEDDOIS_NONE : HANNEDDOIS_OK;
+    return drop_skipped(scan, found);
 }
 
 static int has_room(Scan *scan, size_t room)
@@ -1054,6 +1077,8 @@ typedef struct {
     /* Start and end of each group from 1 on, as the caller counts, and -1 for one that took no part. NULL until somebody asks for one. */
     Py_ssize_t *offsets;
     Py_ssize_t few[2 * FEW_GROUPS];
+    /* Whether it refers to a haystack that is exactly bytes or a str, and to a regex, and to nothing else that is freed with it. */
+    int is_simple;
 } Match;
 
 static Match *free_matches;
@@ -1101,6 +1126,7 @@ static inline void fill_match(Match *match, Matcher *regex, PyObject *haystack, 
     match->finder = NULL;
     match->origin = origin;
     match->offsets = NULL;
+    match->is_simple = 1;
 }
 
 static inline Match *make_match(Matcher *regex, PyObject *haystack, const hanneddois_match *row, size_t start, size_t end, const Place *place,
@@ -1110,8 +1136,10 @@ static inline Match *make_match(Matcher *regex, PyObject *haystack, const hanned
     if (!match)
         return NULL;
     fill_match(match, regex, haystack, row, start, end, place, origin);
-    if (!is_plain(haystack))
+    if (!is_plain(haystack)) {
+        match->is_simple = 0;
         PyObject_GC_Track(match);
+    }
     return match;
 }
 
@@ -1181,8 +1209,7 @@ static inline int is_shared(PyObject *object)
 static void match_dealloc(PyObject *self)
 {
     Match *match = (Match *)self;
-    if (free_count == MOST_FREE || match->finder || !match->haystack || !is_plain(match->haystack) || !is_shared(match->haystack) ||
-        !is_shared(match->regex) || (match->offsets && match->offsets != match->few)) {
+    if (free_count == MOST_FREE || !match->is_simple || !is_shared(match->haystack) || !is_shared(match->regex)) {
         free_match(self);
         return;
     }
@@ -1259,6 +1286,7 @@ static inline Py_ssize_t *room_for_offsets(Match *match, Py_ssize_t count)
 {
     if (count - 1 <= FEW_GROUPS)
         return match->offsets = match->few;
+    match->is_simple = 0;
     match->offsets = malloc((size_t)(count - 1) * 2 * sizeof *match->offsets);
     if (!match->offsets)
         PyErr_NoMemory();
@@ -1776,8 +1804,10 @@ static PyObject *match_at(Matcher *self, Haystack *haystack, Range *range, int i
     range->place.back = (Py_ssize_t)back;
     Match *made = match_of(self, haystack, &row, haystack->has_characters ? first : start, move_to(&range->start, haystack, row.end),
                            &range->place);
-    if (made)
+    if (made) {
+        made->is_simple = 0;
         made->finder = new_reference((PyObject *)finder);
+    }
     return (PyObject *)made;
 }
 

@@ -6,6 +6,7 @@ ghost use Rattle.meta_regex.specs.Regexes.{IsSearchError};
 ghost use Rattle.meta_regex.specs.Lists.{AreFirstListed, AreListed};
 ghost use Rattle.group_finder.specs.Slots.{no_offset};
 ghost use Rattle.captures.specs.Captures.{AreCaptured, AreFirstCaptured, HasCaptures};
+ghost use Rattle.captures.specs.NextMatches.{AreNext, AreNextBegun, AreNextCaptured, IsFullOrLast};
 ghost use Rattle.meta_regex.specs.Regexes.{IsMadeOf as IsEngineMadeOf};
 ghost use Rattle.captures.specs.Groups.{AreGroupsOf};
 ghost use Rattle.captures.specs.Replacing.{IsReplaced, IsReplacementFor, Said};
@@ -291,6 +292,43 @@ impl Compiled {
             &self.regex,
             &mut self.cache,
             haystack,
+            rows,
+            slots,
+            width,
+        )
+    }
+
+    /// The next matches from an offset on, with their groups, as many as there are rows. Each is the leftmost one from where the one before it
+    /// ends, or from the next offset if that one is empty. There is no match after the end of the haystack. Writes `width` slots of each, as
+    /// far as there is room, as [`captures_all`](Compiled::captures_all) does. Returns how many matches there are. `from` is then the offset
+    /// from which the next call goes on. If there are fewer matches than rows, no match follows. On an error, the number counts the matches
+    /// before the search that failed, and `from` is where that search begins. Slots after these matches are unchanged, or those of the next
+    /// match hold no offset.
+    pub fn captures_next(
+        &mut self,
+        alloc: Global,
+        haystack: &[u8],
+        from: &mut usize,
+        rows: &mut [FoundMatch],
+        slots: &mut [usize],
+        width: usize,
+    ) -> (usize, Result<(), CapturesError>)
+        ensures same { self.new ≡ self.old }
+        ensures next { AreNext (config_by self.old) self.old.texts haystack.now from.old result.0 from.new rows.old rows.new }
+        ensures all { IfOk result.1
+            (λ _. IsFullOrLast (config_by self.old) self.old.texts haystack.now (length rows.old) result.0 from.new) }
+        ensures slots { IfOk result.1
+            (λ _. AreNextCaptured (config_by self.old) self.old.texts haystack.now from.old width result.0 slots.old slots.new) }
+        ensures begun { IfErr result.1
+            (λ _. AreNextBegun (config_by self.old) self.old.texts haystack.now from.old width result.0 slots.old slots.new) }
+        ensures refused { IfErr result.1 (IsGroupSearchError self.old haystack.now) }
+    {
+        self.groups.captures_next(
+            alloc,
+            &self.regex,
+            &mut self.cache,
+            haystack,
+            from,
             rows,
             slots,
             width,

@@ -71,7 +71,7 @@ started : (o : Option Match) (start : ℕ) → option_map (λ m. m.start) o ≡ 
 started None start e = absurd (none-some start e)
 started (Some m) start e = (m, refl, same_Some m.start start e)
 
-fits : (h : List ℕ) (b : Re) (i : ℕ) (t : Trace) → i ≤ length h → attempt h b accept i ≡ Some t → (i ≤ t.end) × (t.end ≤ length h)
+pub fits : (h : List ℕ) (b : Re) (i : ℕ) (t : Trace) → i ≤ length h → attempt h b accept i ≡ Some t → (i ≤ t.end) × (t.end ≤ length h)
 fits h b i t inside e =
     let span = Matches-IsSpan h b i t.end (matches_of h b i t e) in
     (omega (arith, span, inside), omega (arith, span, inside))

@@ -5,4 +5,6 @@ pub mod SplitLemmas
 pub mod TemplateLemmas
 pub mod RowLemmas
 pub mod ListLemmas
+pub mod NextLemmas
+pub mod PieceLemmas
 pub mod CopyLemmas

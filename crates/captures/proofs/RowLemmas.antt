@@ -1,5 +1,5 @@
 -- Slots that are filled row by row.
-use Rattle.std.proofs.Common.{◌≡◌, ℕ, zero, suc, ◌+◌, ◌-◌, ◌<◌, ◌≤◌, List, [], ◌∷◌, ◌++◌, All, length, map, take, drop, min, replicate, refl, sym, ap, ◌∙◌, subst, arith, append_assoc, append-nil, length-append}
+use Rattle.std.proofs.Common.{◌≡◌, ℕ, zero, suc, ◌+◌, ◌-◌, ◌<◌, ◌≤◌, List, [], ◌∷◌, ◌++◌, All, length, map, slice_set, take, drop, min, replicate, refl, sym, ap, ◌∙◌, subst, arith, append_assoc, append-nil, length-append}
 use Rattle.std.proofs.lemmas.List.{take-append-drop, take_at}
 use Rattle.std.proofs.lemmas.List.Elements.{All-nil, All-cons, All-head, All-tail}
 use Rattle.std.specs.List.{range_with_len}
@@ -74,6 +74,23 @@ lay_next (d ∷ done) (y ∷ ys) xs zero room e f = absurd (omega (arith, e))
 lay_next (d ∷ done) (y ∷ ys) xs (suc filled) room e f =
     ap (λ (zs : List ℕ). d ∷ zs) (lay_next done ys xs filled room (omega (arith, e)) (omega (arith, f)))
 
+pub one_laid : {A : Type 0} (xs ys : List A) (x : A) → overlaid (xs ++ x ∷ []) ys ≡ slice_set (overlaid xs ys) (length xs) x
+unfolding overlaid
+one_laid [] [] x = refl
+one_laid [] (y ∷ ys) x = refl
+one_laid (a ∷ xs) [] x = refl
+one_laid (a ∷ xs) (y ∷ ys) x = ap (λ (zs : List _). a ∷ zs) (one_laid xs ys x)
+
+pub length_laid : {A : Type 0} (xs ys : List A) → length (overlaid xs ys) ≡ length ys
+unfolding overlaid
+length_laid [] ys = refl
+length_laid (x ∷ xs) [] = refl
+length_laid (x ∷ xs) (y ∷ ys) = ap suc (length_laid xs ys)
+
+pub map_one_more : {A B : Type 0} (f : A → B) (xs : List A) (x : A) → map f (xs ++ x ∷ []) ≡ map f xs ++ f x ∷ []
+map_one_more f [] x = refl
+map_one_more f (a ∷ xs) x = ap (λ (zs : List _). f a ∷ zs) (map_one_more f xs x)
+
 pub map_laid : {A B : Type 0} (f : A → B) (xs ys : List A) → map f (overlaid xs ys) ≡ overlaid (map f xs) (map f ys)
 unfolding overlaid
 map_laid f [] ys = refl
@@ -87,12 +104,6 @@ all_laid P [] ys each = All-nil P
 all_laid P (x ∷ xs) [] each = All-nil P
 all_laid P (x ∷ xs) (y ∷ ys) each =
     All-cons P x (take (length xs) (overlaid xs ys)) (All-head P x xs each) (all_laid P xs ys (All-tail P x xs each))
-
-length_laid : (xs ys : List ℕ) → length (overlaid xs ys) ≡ length ys
-unfolding overlaid
-length_laid [] ys = refl
-length_laid (x ∷ xs) [] = refl
-length_laid (x ∷ xs) (y ∷ ys) = ap suc (length_laid xs ys)
 
 pub same_length : (done old now : List ℕ) (filled : ℕ) → AreFilled done old now filled → length now ≡ length old
 same_length done old now filled it = ap length it.laid ∙ length_laid done old

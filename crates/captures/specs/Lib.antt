@@ -3,4 +3,5 @@ pub mod Patterns
 pub mod Groups
 pub mod Captures
 pub mod Rows
+pub mod NextMatches
 pub mod Replacing

@@ -82,7 +82,7 @@ impl Groups {
 
     /// Writes the slots of a match after those that are filled, as far as there is room, and returns how many are filled then.
     #[inline]
-    fn write_row(
+    pub(crate) fn write_row(
         &mut self,
         alloc: Global,
         haystack: &[u8],

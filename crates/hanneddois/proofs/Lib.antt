@@ -1,5 +1,6 @@
 mod ApartSteps
 mod Boxed
 mod BoxedSets
+mod FailureLemmas
 mod HandleSteps
 mod StreamHandleSteps

@@ -1,11 +1,12 @@
 -- What the results of the calls mean, in terms of the patterns and options from which a handle's regex is made.
-use Rattle.std.specs.Prelude.{◌≡◌, ◌≢◌, ◌<◌, ◌≤◌, ◌||◌, ℕ, Bool, List, true, false, Option, Some, None, length, nat_eq, nat_lt}
+use Rattle.std.specs.Prelude.{◌≡◌, ◌≢◌, ◌<◌, ◌≤◌, ◌*◌, ◌&&◌, ◌||◌, ℕ, Bool, List, true, false, Option, Some, None, length, nat_eq, nat_lt}
 use Rattle.meta_regex.specs.Regexes.{IsReported, HasFoundStart, HasFoundSpan, AreAll, AreFirstOfAll, AreMarked}
 use Rattle.meta_regex.specs.Regexes.{IsSearchError, IsMatchingPatternsError}
 use Rattle.meta_regex.specs.Lists.{AreListed, AreFirstListed}
 use Rattle.meta_regex.specs.declared.errors.SearchError.{SearchError}
 use Rattle.meta_regex.specs.declared.found_match.FoundMatch.{FoundMatch}
 use Rattle.captures.specs.Captures.{AreCaptured, AreFirstCaptured, HasCaptures}
+use Rattle.captures.specs.NextMatches.{AreNext, AreNextBegun, AreNextCaptured, IsFullOrLast}
 use Rattle.captures.specs.declared.errors.CapturesError.{CapturesError}
 use Rattle.capi.specs.Compiled.{Regexed, config_by, IsCallError}
 use Rattle.capi.specs.Failures.{failure_of_captures, failure_of_new, failure_of_search, without_cause}
@@ -79,6 +80,28 @@ pub record AnswersCapturesAll (v : Regexed) (h : List ℕ) (width n : ℕ) (old 
   pub captured : status < 2 → AreCaptured (config_by v) v.texts h width slots_old slots
   pub first : 1 < status → AreFirstOfAll (config_by v) v.texts h n old new
   pub begun : 1 < status → AreFirstCaptured (config_by v) v.texts h width n slots_old slots
+
+-- There is at least one row, and the slots fill the rows, each of the given width.
+abbrev pub has_rows : ℕ → ℕ → ℕ → Bool
+has_rows rows slots width = nat_lt 0 rows && nat_eq slots (rows * width)
+
+-- No match was counted, nothing was written to the rows and slots, and the offset from which to search is as it was.
+pub record KeptNext (from next n : ℕ) (old new : List FoundMatch) (slots_old slots : List ℕ) : Type 0 where
+  pub next_is : next ≡ from
+  pub none : n ≡ 0
+  pub rows_are : new ≡ old
+  pub slots_are : slots ≡ slots_old
+
+-- `n` matches were counted, and they are the first ones from an offset on, whatever loops consume. They are in the rows, and their slots, of
+-- which a row has the given width, are in the slots. The search for the next one begins at the offset `next`. If the call succeeds, the rows
+-- are full or no match follows.
+pub record AnswersCapturesNext (v : Regexed) (h : List ℕ) (from width n next : ℕ) (old new : List FoundMatch) (slots_old slots : List ℕ)
+    (status : ℕ) : Type 0 where
+  pub any : status ≡ 0 → 0 < n
+  pub found : AreNext (config_by v) v.texts h from n next old new
+  pub all : status < 2 → IsFullOrLast (config_by v) v.texts h (length old) n next
+  pub captured : status < 2 → AreNextCaptured (config_by v) v.texts h from width n slots_old slots
+  pub begun : 1 < status → AreNextBegun (config_by v) v.texts h from width n slots_old slots
 
 -- `n` matches are replaced, and the output has `len` bytes, of which the first are in the room. A status of 0 says that a match is replaced and
 -- the whole output is there, one of 1 that there is no match and the whole haystack is there, and one of 13 that there is less room.

@@ -17,8 +17,8 @@ ghost use Rattle.capi.specs.Compiled.{IsMadeOf, IsCallError, are_arguments};
 ghost use Rattle.capi.specs.Failures.{plain};
 ghost use Rattle.capi.specs.Groups.{IsGroupCount, IsGroupName};
 ghost use Rattle.capi.specs.Texts.{cut};
-ghost use Rattle.hanneddois.specs.Answers.{AnswersIsMatch, AnswersFind, AnswersCaptures, AnswersAll, AnswersCapturesAll, AnswersWhichMatch};
-ghost use Rattle.hanneddois.specs.Answers.{AnswersReplace, FailsReplace, is_replaced, pattern_count_of};
+ghost use Rattle.hanneddois.specs.Answers.{AnswersIsMatch, AnswersFind, AnswersCaptures, AnswersAll, AnswersCapturesAll, AnswersCapturesNext, AnswersWhichMatch};
+ghost use Rattle.hanneddois.specs.Answers.{KeptNext, has_rows, AnswersReplace, FailsReplace, is_replaced, pattern_count_of};
 ghost use Rattle.hanneddois.specs.Answers.{RejectsNew, FailsSearch, FailsCaptures, FailsMatchingPatterns};
 
 use capi::{
@@ -464,6 +464,92 @@ pub extern "C" fn hanneddois_captures_all(
         Ok(()) => end(if total == 0 { NONE } else { OK }, error),
         Err(why) => refuse(Failure::of_captures(&why), error),
     }
+}
+
+/// Whether there is a row, and there are as many slots as rows of this width have.
+fn has_rows(rows: usize, slots: usize, width: usize) -> bool
+    ensures { result ≡ has_rows rows slots width }
+{
+    if rows == 0 {
+        return false;
+    }
+    fills(slots, rows, width)
+}
+
+/// The next matches of a compiled regex, as [`hanneddois_captures_next`] returns them for slots that fill the rows.
+fn next_matches(
+    alloc: Global,
+    inside: &mut Compiled,
+    haystack: &[u8],
+    from: &mut usize,
+    matches: &mut [FoundMatch],
+    slots: &mut [usize],
+    width: usize,
+    count: &mut usize,
+    error: &mut Failure,
+) -> u32
+    ensures reported { error.new.status ≡ result }
+    ensures same { inside.new ≡ inside.old }
+    ensures plain { result < 2 → error.new ≡ plain result }
+    ensures none { result ≡ 1 → count.new ≡ 0 }
+    ensures answer { AnswersCapturesNext inside.old haystack.now from.old width count.new from.new matches.old matches.new slots.old slots.new result }
+    ensures refused { FailsCaptures inside.old haystack.now error.new }
+{
+    let (some, reported) = inside.captures_next(alloc, haystack, from, matches, slots, width);
+    *count = some;
+    match reported {
+        Ok(()) => end(if some == 0 { NONE } else { OK }, error),
+        Err(failed) => refuse(Failure::of_captures(&failed), error),
+    }
+}
+
+/// The next matches from an offset on, as many as there are rows, with the offsets of their groups, of each as many slots as a row is wide.
+/// `from` is then the offset from which the next call goes on. The status is 0 if there is any match, and 1 if there is none. The errors are
+/// those of [`hanneddois_captures`], and 2 also if there are no rows, or the slots don't fill them.
+#[unsafe(no_mangle)]
+pub extern "C" fn hanneddois_captures_next(
+    alloc: Global,
+    regex: &mut Handle,
+    haystack: &[u8],
+    from: &mut usize,
+    matches: &mut [FoundMatch],
+    slots: &mut [usize],
+    width: usize,
+    count: &mut usize,
+    error: &mut Failure,
+) -> u32
+    ensures reported { error.new.status ≡ result }
+    ensures same { regex.new.value ≡ regex.old.value }
+    ensures plain { result < 2 → error.new ≡ plain result }
+    ensures none { result ≡ 1 → count.new ≡ 0 }
+    ensures empty { regex.old.value ≡ None → (error.new ≡ plain 2) × KeptNext from.old from.new count.new matches.old matches.new slots.old slots.new }
+    ensures room { has_rows (length matches.old) (length slots.old) width ≡ false →
+        (error.new ≡ plain 2) × KeptNext from.old from.new count.new matches.old matches.new slots.old slots.new }
+    ensures answer { has_rows (length matches.old) (length slots.old) width ≡ true → IfSome regex.old.value
+        (λ v. AnswersCapturesNext v haystack.now from.old width count.new from.new matches.old matches.new slots.old slots.new result) }
+    ensures refused { has_rows (length matches.old) (length slots.old) width ≡ true → IfSome regex.old.value
+        (λ v. FailsCaptures v haystack.now error.new) }
+{
+    *count = 0;
+    if !has_rows(matches.len(), slots.len(), width) {
+        return end(BAD_ARGUMENT, error);
+    }
+    let Some(mut inside) = regex.take(alloc) else {
+        return end(BAD_ARGUMENT, error);
+    };
+    let status = next_matches(
+        alloc,
+        &mut inside,
+        haystack,
+        from,
+        matches,
+        slots,
+        width,
+        count,
+        error,
+    );
+    regex.put(alloc, inside);
+    status
 }
 
 /// The status of a call that has replaced so many matches, with an output of so many bytes for this room.

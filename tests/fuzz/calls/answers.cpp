@@ -206,6 +206,35 @@ void compare_groups(Regexes &made, const Bytes &haystack, size_t room) {
     note(500, static_cast<uint32_t>(std::min<size_t>(rows.count, 20)));
 }
 
+// Pieces of a list are the list. Without each empty match right at the end of the one before it, it is that of all matches with their groups.
+void compare_pieces(Handle &regex, const Bytes &haystack, size_t room) {
+    const size_t width = 4;
+    Found all = regex.captures_all(haystack, haystack.size() + 2, width);
+    Found whole = regex.captures_next(haystack, 0, haystack.size() + 2, width);
+    std::vector<Match> list;
+    std::vector<size_t> slots;
+    for (size_t it = 0; it < whole.list.size(); ++it) {
+        const Match &match = whole.list[it];
+        if (match.is_empty() && it > 0 && match.end == whole.list[it - 1].end)
+            continue;
+        list.push_back(match);
+        slots.insert(slots.end(), whole.slots.begin() + it * width, whole.slots.begin() + (it + 1) * width);
+    }
+    if (!are_answers(all, whole))
+        return;
+    check(list == all.list && slots == all.slots, "a list without empty matches at ends isn't that of all matches");
+    std::vector<Match> built;
+    for (size_t from = 0, count = room; count == room && built.size() <= haystack.size() + 2;) {
+        Found piece = regex.captures_next(haystack, from, room, width);
+        if (!piece.is_answer())
+            return;
+        built.insert(built.end(), piece.list.begin(), piece.list.end());
+        from = piece.next;
+        count = piece.count;
+    }
+    check(built == whole.list, "a list in pieces isn't the whole list");
+}
+
 // Bytes as they are replace the matches of the list. A template with the whole match alone leaves the haystack as it is.
 void compare_replaced(Handle &regex, const Bytes &haystack, size_t room, bool may_end_elsewhere) {
     const Bytes by = {'$', '1', 0xFF}, whole = {'$', '{', '0', '}'};
@@ -240,6 +269,7 @@ void compare(Regexes &made, const Case &given, const Bytes &haystack) {
     compare_matching(made, haystack);
     compare_replaced(made.all, haystack, room, made.may_end_elsewhere);
     compare_groups(made, haystack, room);
+    compare_pieces(made.all, haystack, room + 1);
     for (size_t it = 0; it < MOST_FROM && it < given.calls.size() + 2; ++it) {
         size_t from = it == 0 ? 0 : it == 1 ? haystack.size() : given.calls[it - 2].value * haystack.size() / 255;
         compare_offsets(made, haystack, from);

@@ -207,6 +207,44 @@ Found Handle::captures_all(const Bytes &haystack, size_t room, size_t width) {
     return found;
 }
 
+Found Handle::captures_next(const Bytes &haystack, size_t from, size_t room, size_t width) {
+    Fenced input(haystack.data(), haystack.size()), rows(nullptr, room * sizeof(hanneddois_match)), slots(nullptr, room * width * sizeof(size_t));
+    memset(rows.data(), UNTOUCHED, rows.size());
+    memset(slots.data(), UNTOUCHED, slots.size());
+    hanneddois_error error = filled_error();
+    size_t count = 99, next = from;
+    hanneddois_match *matches = reinterpret_cast<hanneddois_match *>(rows.data());
+    size_t *first = reinterpret_cast<size_t *>(slots.data());
+    hanneddois_status status = hanneddois_captures_next(raw(), input.data(), input.size(), &next, matches, room, first, room * width, width, &count, &error);
+    Found found = searched(status, error, haystack);
+    found.count = count;
+    found.next = next;
+    if (room == 0)
+        check(status == HANNEDDOIS_BAD_ARGUMENT, "a list without rows is made");
+    check(count <= room, "more matches are counted than there are rows");
+    check(status != HANNEDDOIS_OK || count > 0, "matches are found, and their count is 0");
+    check(status != HANNEDDOIS_NONE || count == 0, "no match is found, and the count isn't 0");
+    check(!is_empty() || count == 0, "an empty handle has matches");
+    size_t written = count, expected = from;
+    for (size_t it = 0; it < written; ++it) {
+        check(expected <= matches[it].start, "a match starts before the search for it");
+        expected = matches[it].end + (matches[it].start == matches[it].end);
+        found.list.push_back({matches[it].pattern, matches[it].start, matches[it].end});
+        check_slots(found.list.back(), first + it * width, width);
+    }
+    check(next == expected, "a list goes on elsewhere");
+    found.slots.assign(first, first + written * width);
+    for (size_t it = written * sizeof(hanneddois_match); it < rows.size(); ++it)
+        check(rows.data()[it] == UNTOUCHED, "rows after the last match are written");
+    size_t untouched;
+    memset(&untouched, UNTOUCHED, sizeof untouched);
+    for (size_t it = written * width; it < room * width; ++it) {
+        bool may_be_cleared = !found.is_answer() && it < (written + 1) * width && first[it] == HANNEDDOIS_NO_OFFSET;
+        check(may_be_cleared || first[it] == untouched, "slots after the last match are written");
+    }
+    return found;
+}
+
 Found Handle::matching(const Bytes &haystack, size_t marks) {
     Fenced input(haystack.data(), haystack.size()), matched(nullptr, marks);
     memset(matched.data(), UNTOUCHED, marks);

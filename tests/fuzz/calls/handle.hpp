@@ -39,6 +39,7 @@ struct Found {
     std::vector<uint8_t> marks;
     std::vector<size_t> slots;
     Bytes output;      // as far as there is room
+    size_t next = 0;   // where a list goes on
     size_t length = 0; // of the whole output
     bool is_answer() const { return status == HANNEDDOIS_OK || status == HANNEDDOIS_NONE || status == HANNEDDOIS_OUTPUT_TOO_SMALL; }
 };
@@ -65,6 +66,7 @@ class Handle {
     Found find_all(const Bytes &haystack, size_t room);
     Found captures(const Bytes &haystack, size_t from, size_t slots);
     Found captures_all(const Bytes &haystack, size_t room, size_t width);
+    Found captures_next(const Bytes &haystack, size_t from, size_t room, size_t width);
     Found matching(const Bytes &haystack, size_t marks);
     Found replace_all(const Bytes &haystack, const Bytes &by, size_t limit, uint32_t flags, size_t room);
     Found copy_from(Handle &from);

@@ -8,7 +8,7 @@
 namespace fuzz {
 namespace {
 
-enum Kind { MAKE, MAKE_OTHER, IS_MATCH, FIND_AT, FIND_ALL, REPLACE_ALL, CAPTURES, CAPTURES_ALL, MATCHING, END, MOVE, COUNTS, MAKE_FAULTY, FIND_FAULTY, MATCHING_FAULTY, MESSAGE, COPY, KINDS };
+enum Kind { MAKE, MAKE_OTHER, IS_MATCH, FIND_AT, FIND_ALL, REPLACE_ALL, CAPTURES, CAPTURES_ALL, CAPTURES_NEXT, MATCHING, END, MOVE, COUNTS, MAKE_FAULTY, FIND_FAULTY, MATCHING_FAULTY, MESSAGE, COPY, KINDS };
 
 // What a handle was made of.
 struct Side {
@@ -31,6 +31,8 @@ Found search(Handle &handle, int kind, const Bytes &haystack, uint8_t value) {
         return handle.captures(haystack, value / 8 * haystack.size() / 31, value % 8);
     case CAPTURES_ALL:
         return handle.captures_all(haystack, value % 8, value / 8 % 8);
+    case CAPTURES_NEXT:
+        return handle.captures_next(haystack, value / 16 * (haystack.size() + 1) / 15, value % 4, value / 4 % 4);
     default:
         return handle.matching(haystack, handle.count());
     }

@@ -169,6 +169,20 @@ static void captures_all(hanneddois_regex *regex, struct result *result)
         CHECK(result->slots[i] == (size_t)0x5555555555555555);
 }
 
+/* The same of the next matches, and the offset from which to go on. */
+static void captures_next(hanneddois_regex *regex, struct result *result)
+{
+    result->number = 0;
+    result->status = hanneddois_captures_next(regex, haystack(), now->length, &result->number, result->rows, ROWS, result->slots, WIDTH * ROWS, WIDTH,
+                                              &result->count, &result->error);
+    const hanneddois_match *last = result->count ? &result->rows[result->count - 1] : NULL;
+    CHECK(result->number == (last ? last->end + (last->start == last->end) : 0));
+    for (size_t i = result->count; i < ROWS; i++)
+        CHECK(result->rows[i].start == (size_t)0x5555555555555555);
+    for (size_t i = WIDTH * (result->count + (result->status > HANNEDDOIS_NONE)); i < WIDTH * ROWS; i++)
+        CHECK(result->slots[i] == (size_t)0x5555555555555555);
+}
+
 /* A template with all groups of the widest pattern. */
 static void replace_all(hanneddois_regex *regex, struct result *result)
 {
@@ -483,6 +497,7 @@ static const struct row CALLS[] = {
     {"hanneddois_find_all", find_all, 0, 1},
     {"hanneddois_captures", captures, 0, 1},
     {"hanneddois_captures_all", captures_all, 0, 1},
+    {"hanneddois_captures_next", captures_next, 0, 1},
     {"hanneddois_replace_all", replace_all, 0, 1},
     {"hanneddois_group_count", group_count, 0, 0},
     {"hanneddois_group_name", group_name, 0, 0},
@@ -529,11 +544,11 @@ static void check_refused(const struct row *row, const struct result *result, co
         plain.status = HANNEDDOIS_NO_MEMORY;
         CHECK(memcmp(&result->error, &plain, sizeof plain) == 0);
     }
-    if (row->call == find_all || row->call == captures_all) {
+    if (row->call == find_all || row->call == captures_all || row->call == captures_next) {
         CHECK(result->count <= ample->count);
         CHECK(memcmp(result->rows, ample->rows, result->count * sizeof result->rows[0]) == 0);
     }
-    if (row->call == captures_all)
+    if (row->call == captures_all || row->call == captures_next)
         CHECK(memcmp(result->slots, ample->slots, result->count * WIDTH * sizeof result->slots[0]) == 0);
 }
 
