@@ -90,22 +90,11 @@ none_needed w f line none =
     shown_without w (with_needed_spans w f) line (ap (λ b. (if b then f.spans line else [])) none)
     (λ template. ap (λ b. (if b then f.replaced template line else as_it_is line [])) none)
 
--- and if it counts, these are all matches of a line that isn't replaced
-pub all_needed : (w : OutputOptions) (f : LineMatcher) (line : SplitLine) (found : List (ℕ × ℕ)) → needs_shown w ≡ true →
-    w.replacement ≡ None → found ≡ f.spans line → as_it_is line found ≡ shown_of w (with_needed_spans w f) line
-all_needed w f line found needs unasked reported =
-    ap (as_it_is line) reported
-    ∙ sym (same_shown w f needs line ∙ ap (λ o. shown_by o f line) unasked)
-
 -- or a line whose matches are replaced
 pub replaced_needed : (w : OutputOptions) (f : LineMatcher) (line : SplitLine) (template : Bor (List ℕ)) (s : ShownLine) → needs_shown w ≡ true →
     w.replacement ≡ Some template → s ≡ f.replaced template.now line → s ≡ shown_of w (with_needed_spans w f) line
 replaced_needed w f line template s needs asked reported =
     reported ∙ sym (same_shown w f needs line ∙ ap (λ o. shown_by o f line) asked)
-
--- spans are sought if nothing is replaced
-pub spans_needed : (w : OutputOptions) → needs_shown w ≡ true → w.replacement ≡ None → needs_spans w ≡ true
-spans_needed w needs unasked = ap₂ (λ b o. b && not (is_some o)) needs unasked
 
 -- a finder that seeks the same
 abbrev pub moved_by : {p q : Sought} {spans : Bool} → q ≡ p → SearchesFor p spans → SearchesFor q spans
@@ -125,11 +114,6 @@ pub progress_by : (s : Sought) (spans : Bool) (by : SearchesFor s spans) (line :
     reported ≡ has_match_in by.how by.patterns line
 progress_by s spans by line reported match =
     subst (λ (h : PatternOptions). IsMatchReported h s.texts line reported) (sym by.same) match by.patterns by.are_read
-
-pub spans_by : (s : Sought) (spans : Bool) (by : SearchesFor s spans) (line : List ℕ) (reported : List (ℕ × ℕ)) →
-    AreReported s.how s.texts line reported → reported ≡ spans_in by.how by.patterns line
-spans_by s spans by line reported all =
-    subst (λ (h : PatternOptions). AreReported h s.texts line reported) (sym by.same) all by.patterns by.are_read
 
 pub none_by : (s : Sought) (spans : Bool) (by : SearchesFor s spans) (text : List ℕ) → HaveNoMatch s.how s.texts text →
     All (λ line. (found_by by).has_match line ≡ false) (split_lines text)

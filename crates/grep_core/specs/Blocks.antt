@@ -27,6 +27,15 @@ SearchesBy t s = SearchesFor s (needs_spans t.what.now)
 abbrev pub finds_by : (t : Task) {s : Sought} → SearchesBy t s → LineMatcher
 finds_by t by = with_needed_spans t.what.now (found_by by)
 
+-- The lines of `before` that aren't in `after` were processed, by a search for `s`. Whatever bytes follow, the output so far with what is
+-- still to be printed after it is unchanged, and so is the number of selected lines.
+pub record ReportsUpTo (t : Task) (s : Sought) (old new : Progress) (out now before after : List ℕ) : Type 0 where
+  pub goes_on : (by : SearchesBy t s) (more : List ℕ) →
+      out ++ reported_bytes t (finds_by t by) old (split_lines (before ++ more))
+      ≡ now ++ reported_bytes t (finds_by t by) new (split_lines (after ++ more))
+  pub counts : (by : SearchesBy t s) (more : List ℕ) →
+      counts_lines t (finds_by t by) new (split_lines (after ++ more)) ≡ counts_lines t (finds_by t by) old (split_lines (before ++ more))
+
 -- The output for some bytes was produced, and the bytes `after` are left.
 pub record ReportsOn (t : Task) (f : LineMatcher) (reported : List ℕ) (old new : Progress) (before after : List ℕ) : Type 0 where
   pub printed : reported_bytes t f old (split_lines before) ≡ reported ++ reported_bytes t f new (split_lines after)

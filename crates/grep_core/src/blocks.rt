@@ -1,10 +1,10 @@
 //! Processes the lines of blocks of an input.
 ghost use Rattle.std.specs.Prelude.{◌≡◌, ◌++◌, ◌∷◌, [], ℕ, ◌+◌, ◌≤◌, ◌==◌, List, None, OnOk, IfOk, drop, length, ◌<◌, ◌≢◌, take, true};
 ghost use Rattle.std.specs.List.{position};
-ghost use Rattle.grep_core.specs.Blocks.{SearchesBy, finds_by, reported_bytes, counts_lines};
+ghost use Rattle.grep_core.specs.Blocks.{SearchesBy, ReportsUpTo, finds_by, reported_bytes, counts_lines};
 ghost use Rattle.line_search.specs.Candidates.{HasMatchAt, IsLineStart};
 ghost use Rattle.grep_core.specs.ContextPrinting.{Waits};
-ghost use Rattle.line_search.specs.Lines.{SplitLine, searched, split_lines};
+ghost use Rattle.line_search.specs.Lines.{SplitLine, searched};
 ghost use Rattle.grep_core.specs.Skipping.{AreWhole};
 ghost use Rattle.line_search.specs.Searchers.{IsMatchReported};
 
@@ -13,7 +13,7 @@ use crate::looking::{look_at, shown_bytes};
 use crate::passing::skip_lines;
 use crate::progress::{Progress, Task, pass};
 use crate::reporter::report_line;
-use line_search::{Fault, Finder, Reached, feed_at, line_start};
+use line_search::{Fault, Finder, feed_at, line_start};
 use std::alloc::Global;
 
 /// Processes one line. The line is given without its line feed. `is_known` says whether it is known to have a match.
@@ -100,12 +100,8 @@ fn report_here(
     ensures on { position (λ b. b == 10) (drop at block.now) ≢ None → IfOk result (λ next. at < next) }
     ensures from { IfOk result (λ next. at ≤ next) }
     ensures starts { IfOk result (λ next. at < next → IsLineStart block.now next) }
-    ensures goes_on { IfOk result (λ next. (by : SearchesBy task.entry finder.old) (more : List ℕ) →
-        out.old.items ++ reported_bytes task.entry (finds_by task.entry by) progress.old (split_lines (drop at block.now ++ more))
-        ≡ out.new.items ++ reported_bytes task.entry (finds_by task.entry by) progress.new (split_lines (drop next block.now ++ more))) }
-    ensures counts { IfOk result (λ next. (by : SearchesBy task.entry finder.old) (more : List ℕ) →
-        counts_lines task.entry (finds_by task.entry by) progress.new (split_lines (drop next block.now ++ more))
-        ≡ counts_lines task.entry (finds_by task.entry by) progress.old (split_lines (drop at block.now ++ more))) }
+    ensures reports { IfOk result (λ next. ReportsUpTo task.entry finder.old progress.old progress.new out.old.items out.new.items
+        (drop at block.now) (drop next block.now)) }
 {
     let Some(len) = feed_at(&block[at..]) else {
         return Ok(at);
@@ -124,47 +120,6 @@ fn report_here(
         Err(e) => return Err(e),
     }
     Ok(at + len + 1)
-}
-
-/// Processes the lines from the start of a line up to the next line that may have a match. Returns where that line starts. The block
-/// consists of whole lines.
-fn report_before(
-    alloc: Global,
-    out: &mut Vec<u8>,
-    finder: &mut Finder<'_>,
-    task: Task<'_>,
-    progress: &mut Progress,
-    block: &[u8],
-    at: usize,
-) -> Result<Reached, Fault>
-    requires waits { Waits task.what.now progress.old.telling.course }
-    requires within { at ≤ length block.now }
-    requires starts { IsLineStart block.now at }
-    requires whole { AreWhole block.now }
-    ensures same { finder.new ≡ finder.old }
-    ensures waits { OnOk result (Waits task.entry.what.now progress.new.telling.course) }
-    ensures from { IfOk result (λ r. at ≤ r.start) }
-    ensures within { IfOk result (λ r. r.start ≤ length block.now) }
-    ensures starts { IfOk result (λ r. IsLineStart block.now r.start) }
-    ensures has { IfOk result (λ r. r.has ≡ true → HasMatchAt finder.old.how finder.old.texts block.now r.start) }
-    ensures goes_on { IfOk result (λ r. (by : SearchesBy task.entry finder.old) (more : List ℕ) →
-        out.old.items ++ reported_bytes task.entry (finds_by task.entry by) progress.old (split_lines (drop at block.now ++ more))
-        ≡ out.new.items ++ reported_bytes task.entry (finds_by task.entry by) progress.new (split_lines (drop r.start block.now ++ more))) }
-    ensures counts { IfOk result (λ r. (by : SearchesBy task.entry finder.old) (more : List ℕ) →
-        counts_lines task.entry (finds_by task.entry by) progress.new (split_lines (drop r.start block.now ++ more))
-        ≡ counts_lines task.entry (finds_by task.entry by) progress.old (split_lines (drop at block.now ++ more))) }
-{
-    let reached = match finder.next_line(alloc, block, at) {
-        Ok(reached) => reached,
-        Err(e) => return Err(e),
-    };
-    if at < reached.start {
-        return match skip_lines(alloc, out, task, progress, &block[at..reached.start]) {
-            Ok(()) => Ok(reached),
-            Err(e) => Err(e),
-        };
-    }
-    Ok(reached)
 }
 
 /// Processes lines from the start of a line on: those before the next line that may have a match, and that line if it is known to have one
@@ -187,22 +142,22 @@ fn report_next(
     ensures on { IfOk result (λ next. at < next) }
     ensures within { IfOk result (λ next. next ≤ length block.now) }
     ensures starts { IfOk result (λ next. IsLineStart block.now next) }
-    ensures goes_on { IfOk result (λ next. (by : SearchesBy task.entry finder.old) (more : List ℕ) →
-        out.old.items ++ reported_bytes task.entry (finds_by task.entry by) progress.old (split_lines (drop at block.now ++ more))
-        ≡ out.new.items ++ reported_bytes task.entry (finds_by task.entry by) progress.new (split_lines (drop next block.now ++ more))) }
-    ensures counts { IfOk result (λ next. (by : SearchesBy task.entry finder.old) (more : List ℕ) →
-        counts_lines task.entry (finds_by task.entry by) progress.new (split_lines (drop next block.now ++ more))
-        ≡ counts_lines task.entry (finds_by task.entry by) progress.old (split_lines (drop at block.now ++ more))) }
+    ensures reports { IfOk result (λ next. ReportsUpTo task.entry finder.old progress.old progress.new out.old.items out.new.items
+        (drop at block.now) (drop next block.now)) }
 {
-    let reached = match report_before(alloc, out, finder, task, progress, block, at) {
+    let reached = match finder.next_line(alloc, block, at) {
         Ok(reached) => reached,
         Err(e) => return Err(e),
     };
     let start = reached.start;
+    match skip_lines(alloc, out, task, progress, &block[at..start]) {
+        Ok(()) => {}
+        Err(e) => return Err(e),
+    }
     if at < start && !reached.has {
         return Ok(start);
     }
-    let behind = match report_here(
+    let next = match report_here(
         alloc,
         out,
         finder,
@@ -212,10 +167,10 @@ fn report_next(
         start,
         reached.has,
     ) {
-        Ok(behind) => behind,
+        Ok(next) => next,
         Err(e) => return Err(e),
     };
-    Ok(behind)
+    Ok(next)
 }
 
 /// Processes the whole lines at the start of a block. Returns the number of their bytes.
@@ -232,12 +187,8 @@ pub(crate) fn report_block(
     ensures waits { OnOk result (Waits task.entry.what.now progress.new.telling.course) }
     ensures within { IfOk result (λ done. done ≤ length block.now) }
     ensures all { IfOk result (λ done. position (λ b. b == 10) (drop done block.now) ≡ None) }
-    ensures goes_on { IfOk result (λ done. (by : SearchesBy task.entry finder.old) (more : List ℕ) →
-        out.old.items ++ reported_bytes task.entry (finds_by task.entry by) progress.old (split_lines (block.now ++ more))
-        ≡ out.new.items ++ reported_bytes task.entry (finds_by task.entry by) progress.new (split_lines (drop done block.now ++ more))) }
-    ensures counts { IfOk result (λ done. (by : SearchesBy task.entry finder.old) (more : List ℕ) →
-        counts_lines task.entry (finds_by task.entry by) progress.new (split_lines (drop done block.now ++ more))
-        ≡ counts_lines task.entry (finds_by task.entry by) progress.old (split_lines (block.now ++ more))) }
+    ensures reports { IfOk result (λ done. ReportsUpTo task.entry finder.old progress.old progress.new out.old.items out.new.items
+        block.now (drop done block.now)) }
 {
     let whole = whole_len(block);
     let mut done = 0usize;

@@ -291,7 +291,7 @@ impl ContextPrinter {
 }
 
 /// Advances by one line.
-pub(crate) fn next_line(
+pub(crate) fn advance(
     alloc: Global,
     out: &mut Vec<u8>,
     what: &OutputOptions<'_>,

@@ -76,40 +76,6 @@ pub fn is_task_over(task: Task<'_>, progress: &Progress) -> bool
     is_over(task.what, &progress.telling)
 }
 
-/// Processes the whole lines of the buffered input, writes their output, and keeps the bytes after them. Returns whether nothing more is
-/// printed.
-fn report_lines<W: Write>(
-    alloc: Global,
-    writer: &mut W,
-    finder: &mut Finder<'_>,
-    task: Task<'_>,
-    read: &mut LineBuffer,
-    progress: &mut Progress,
-) -> Result<bool, Fault>
-    requires { Waits task.what.now progress.old.telling.course }
-    ensures same { finder.new ≡ finder.old }
-    ensures waits { OnOk result (Waits task.entry.what.now progress.new.telling.course) }
-    ensures writes { OnOk result ((by : SearchesBy task.entry finder.old) (more : List ℕ) →
-        Writes task.entry (finds_by task.entry by) progress.old progress.new (read.old ++ more) (read.new ++ more)
-        (W.contents writer.old) (W.contents writer.new)) }
-    ensures over { IfOk result (λ over. IsTrue over → IsOver task.entry progress.new) }
-    ensures fault { IfErr result (λ _. (by : SearchesBy task.entry finder.old) (more : List ℕ) →
-        WritesPart task.entry (finds_by task.entry by) progress.old (read.old ++ more) (W.contents writer.old)
-        (W.contents writer.new)) }
-{
-    let mut out = Vec::new(alloc);
-    let done = match report_block(alloc, &mut out, finder, task, progress, read.bytes()) {
-        Ok(done) => done,
-        Err(e) => return Err(e),
-    };
-    match write_out(writer, &out) {
-        Ok(()) => {}
-        Err(e) => return Err(e),
-    }
-    read.forget(done);
-    Ok(is_task_over(task, progress))
-}
-
 /// Whether an input is so long that the matches of its first line are printed one after the other, if they are printed alone or the line is
 /// printed for each.
 fn begins_long(task: Task<'_>, read: &[u8]) -> bool
@@ -271,7 +237,8 @@ fn forget_some(read: &mut LineBuffer, done: usize)
     }
 }
 
-/// Processes the whole lines of the buffered input, long ones while their matches are searched for. Returns whether nothing more is printed.
+/// Processes the whole lines of the buffered input, long ones while their matches are searched for. Writes their output, and keeps the
+/// bytes after them. Returns whether nothing more is printed.
 fn report_read<W: Write>(
     alloc: Global,
     writer: &mut W,
@@ -296,11 +263,17 @@ fn report_read<W: Write>(
         Err(e) => return Err(e),
     };
     forget_some(read, done);
-    let over = match report_lines(alloc, writer, finder, task, read, progress) {
-        Ok(over) => over,
+    let mut out = Vec::new(alloc);
+    let done = match report_block(alloc, &mut out, finder, task, progress, read.bytes()) {
+        Ok(done) => done,
         Err(e) => return Err(e),
     };
-    Ok(over)
+    match write_out(writer, &out) {
+        Ok(()) => {}
+        Err(e) => return Err(e),
+    }
+    read.forget(done);
+    Ok(is_task_over(task, progress))
 }
 
 /// Reads the next block, and processes the lines that end in it.
@@ -655,50 +628,12 @@ pub fn count_of(print: Print, progress: &Progress) -> u64
     counted_as(print, progress.telling.count)
 }
 
-/// Reads an input line by line into an empty buffer, and writes what is printed for it. Returns the number of selected lines.
-fn report_buffered<R: Read, W: Write>(
-    alloc: Global,
-    finder: &mut Finder<'_>,
-    what: &OutputOptions<'_>,
-    name: &[u8],
-    with_name: bool,
-    known: SeparatorState,
-    reader: &mut R,
-    writer: &mut W,
-    read: &mut LineBuffer,
-) -> Result<u64, Fault>
-    requires { read.old ≡ [] }
-    ensures same { finder.new ≡ finder.old }
-    ensures reported { OnOk result ((by : SearchesFor finder.old (needs_spans what.now)) → IfSome (R.remaining reader.old) (λ text.
-        Appends (W.contents writer.old) (W.contents writer.new) (report what.now (found_by by) name.now with_name known text))) }
-    ensures selected { IfOk result (λ n. (by : SearchesFor finder.old (needs_spans what.now)) → IfSome (R.remaining reader.old) (λ text.
-        n ≡ counted_as what.now.print (selected_count what.now (found_by by) text))) }
-    ensures fault { IfErr result (λ _. (by : SearchesFor finder.old (needs_spans what.now)) → IfSome (R.remaining reader.old) (λ text.
-        (n : ℕ) × Appends (W.contents writer.old) (W.contents writer.new)
-        (take n (report what.now (found_by by) name.now with_name known text)))) }
+/// Gives the room of a buffer back to the finder, for the next input.
+fn give_back(alloc: Global, finder: &mut Finder<'_>, mut read: LineBuffer)
+    ensures { finder.new ≡ finder.old }
 {
-    let task = Task {
-        what,
-        name,
-        with_name,
-    };
-    let mut progress = Progress::new(alloc, first_of(what), known);
-    let ended = match report_blocks(alloc, reader, writer, finder, task, read, &mut progress) {
-        Ok(ended) => ended,
-        Err(e) => return Err(e),
-    };
-    match finish(
-        alloc,
-        writer,
-        finder,
-        task,
-        ended,
-        read.bytes(),
-        &mut progress,
-    ) {
-        Ok(()) => Ok(count_of(what.print, &progress)),
-        Err(e) => Err(e),
-    }
+    let reads = read.reads();
+    finder.keep_room(read.take_room(alloc), reads);
 }
 
 /// Reads an input line by line, and writes what is printed for it. Returns the number of selected lines. If names of inputs are asked for,
@@ -732,13 +667,39 @@ pub fn report_input<R: Read, W: Write>(
         (n : ℕ) × Appends (W.contents writer.old) (W.contents writer.new)
         (take n (report what.now (found_by by) name.now with_name known text)))) }
 {
+    let task = Task {
+        what,
+        name,
+        with_name,
+    };
+    let mut progress = Progress::new(alloc, first_of(what), known);
     let (room, reads) = finder.take_room(alloc);
     let mut read = LineBuffer::over(room, reads);
-    let reported = report_buffered(
-        alloc, finder, what, name, with_name, known, reader, writer, &mut read,
-    );
-    let reads = read.reads();
-    let room = read.take_room(alloc);
-    finder.keep_room(room, reads);
-    reported
+    let ended = match report_blocks(
+        alloc,
+        reader,
+        writer,
+        finder,
+        task,
+        &mut read,
+        &mut progress,
+    ) {
+        Ok(ended) => ended,
+        Err(e) => return Err(e),
+    };
+    match finish(
+        alloc,
+        writer,
+        finder,
+        task,
+        ended,
+        read.bytes(),
+        &mut progress,
+    ) {
+        Ok(()) => {
+            give_back(alloc, finder, read);
+            Ok(count_of(what.print, &progress))
+        }
+        Err(e) => Err(e),
+    }
 }

@@ -13,7 +13,7 @@ ghost use Rattle.grep_core.specs.Reporting.{still_reported, count_in_all};
 ghost use Rattle.grep_core.specs.declared.output_options.OutputOptions.{OutputOptions as TheOutputOptions};
 
 use crate::colors::{Part, push_marked};
-use crate::context_printer::{ContextPrinter, next_line, see_end};
+use crate::context_printer::{ContextPrinter, advance, see_end};
 use crate::line::Line;
 use crate::output_options::{OutputOptions, Print};
 use crate::printing::push_name_before;
@@ -95,7 +95,7 @@ fn report_by_flags(
     ensures waits { OnOk result (Waits what.now course.new) }
 {
     if prints_lines(what.print) {
-        return next_line(alloc, out, what, name, course, line, is_selected, found);
+        return advance(alloc, out, what, name, course, line, is_selected, found);
     }
     Ok(())
 }

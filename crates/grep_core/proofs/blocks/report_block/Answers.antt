@@ -18,14 +18,18 @@ loop-done-preserved c =
       starts = c.in-Ok.ensures.starts;
       same = c.in-Ok.ensures.same ∙ c.loop-done.invariant.same;
       waits = c.in-Ok.ensures.waits;
-      printed = λ by more.
-          block_told (reported_bytes c.args.task (finds_by c.args.task by)) c.loop-done.progress c.report_next.new.progress block more
-          _ c.loop-done.out.items c.report_next.new.out.items whole c.loop-done.done c.in-Ok.next c.loop-done.invariant.in_whole next_in
-          (c.loop-done.invariant.printed by more) (c.in-Ok.ensures.goes_on (moved_by c.loop-done.invariant.same by));
-      counted = λ by more.
-          block_counted (counts_lines c.args.task (finds_by c.args.task by)) c.loop-done.progress c.report_next.new.progress block more
-          _ whole c.loop-done.done c.in-Ok.next c.loop-done.invariant.in_whole next_in
-          (c.loop-done.invariant.counted by more) (c.in-Ok.ensures.counts (moved_by c.loop-done.invariant.same by));
+      reports = record {
+        goes_on = λ by more.
+            block_told (reported_bytes c.args.task (finds_by c.args.task by)) c.loop-done.progress c.report_next.new.progress block more
+            _ c.loop-done.out.items c.report_next.new.out.items whole c.loop-done.done c.in-Ok.next c.loop-done.invariant.in_whole next_in
+            (c.loop-done.invariant.reports.goes_on by more)
+            (c.in-Ok.ensures.reports.goes_on (moved_by c.loop-done.invariant.same by));
+        counts = λ by more.
+            block_counted (counts_lines c.args.task (finds_by c.args.task by)) c.loop-done.progress c.report_next.new.progress block more
+            _ whole c.loop-done.done c.in-Ok.next c.loop-done.invariant.in_whole next_in
+            (c.loop-done.invariant.reports.counts by more)
+            (c.in-Ok.ensures.reports.counts (moved_by c.loop-done.invariant.same by));
+      };
     }
 
 pub returns-clause-all : goal.returns-clause-all

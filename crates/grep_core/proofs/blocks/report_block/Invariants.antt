@@ -1,8 +1,7 @@
-use Rattle.std.proofs.Common.{◌≡◌, ◌++◌, ◌-◌, ◌≤◌, ℕ, List, drop, take}
-use Rattle.grep_core.specs.Blocks.{SearchesBy, finds_by, reported_bytes, counts_lines}
+use Rattle.std.proofs.Common.{◌≡◌, ◌-◌, ◌≤◌, drop, take}
+use Rattle.grep_core.specs.Blocks.{ReportsUpTo}
 use Rattle.line_search.specs.Candidates.{IsLineStart}
 use Rattle.grep_core.specs.ContextPrinting.{Waits}
-use Rattle.line_search.specs.Lines.{split_lines}
 use Rattle.grep_core.proofs.blocks.report_block.Given as goal
 
 abbrev pub invariant-loop-done : goal.invariant-loop-done
@@ -11,12 +10,7 @@ invariant-loop-done l = record {
   starts : IsLineStart (take l.whole l.block) l.done;
   same : l.finder ≡ l.initial.finder;
   waits : Waits l.task.what.now l.progress.telling.course;
-  printed : (by : SearchesBy l.task l.initial.finder) (more : List ℕ) →
-      l.initial.out.items ++ reported_bytes l.task (finds_by l.task by) l.initial.progress (split_lines (l.block ++ more))
-      ≡ l.out.items ++ reported_bytes l.task (finds_by l.task by) l.progress (split_lines (drop l.done l.block ++ more));
-  counted : (by : SearchesBy l.task l.initial.finder) (more : List ℕ) →
-      counts_lines l.task (finds_by l.task by) l.progress (split_lines (drop l.done l.block ++ more))
-      ≡ counts_lines l.task (finds_by l.task by) l.initial.progress (split_lines (l.block ++ more));
+  reports : ReportsUpTo l.task l.initial.finder l.initial.progress l.progress l.initial.out.items l.out.items l.block (drop l.done l.block);
 }
 
 abbrev pub decreases-loop-done : goal.decreases-loop-done

@@ -5,7 +5,7 @@ use Rattle.line_search.specs.LineMatchers.{span_pair, ShownLine}
 use Rattle.grep_core.specs.Report.{as_it_is}
 use Rattle.line_search.specs.Searchers.{Sought, AreReported, SearchesFor, found_by}
 use Rattle.grep_core.specs.Reporting.{needs_shown, needs_spans}
-use Rattle.grep_core.proofs.SeenLemmas.{none_shown, none_needed, all_needed, moved_by, progress_by, replaced_needed, spans_by, spans_needed}
+use Rattle.grep_core.proofs.SeenLemmas.{none_shown, none_needed, moved_by, progress_by, replaced_needed}
 use Rattle.grep_core.proofs.SeenLemmas.{searched_by}
 use Rattle.grep_core.proofs.looking.look_in.Goals as goal
 use Rattle.grep_core.proofs.looking.look_in.Goals.{then-not-has-via-then-not-has, then-not-has-via-else-not-has+then-not-needs_shown}

@@ -1,19 +1,60 @@
 use Rattle.std.proofs.Common.{◌∙◌}
-use Rattle.std.proofs.lemmas.Result.{on_ok_weaker, IfOk-weaker, IfErr-weaker}
+use Rattle.grep_core.specs.declared.progress.Task.{Task}
+use Rattle.line_search.specs.Searchers.{found_by}
+use Rattle.grep_core.specs.Reporting.{with_needed_spans}
 use Rattle.grep_core.proofs.SeenLemmas.{moved_by}
+use Rattle.grep_core.proofs.TextLemmas.{text_part, text_written, rest_part, text_counted}
+use Rattle.grep_core.proofs.WriteLemmas.{some_of, at_end}
 use Rattle.grep_core.proofs.reading.report_input.Goals as goal
 
-pub returns-clause-same : goal.returns-clause-same
-returns-clause-same g c = c.keep_room.ensures ∙ (c.report_buffered-reported.ensures.same ∙ c.take_room-room.ensures)
+pub report_blocks-requires : goal.report_blocks-requires
+report_blocks-requires g c = record { waits = c.new-progress.ensures.waits c.args.what.now }
 
-pub returns-clause-reported : goal.returns-clause-reported
-returns-clause-reported g c =
-    on_ok_weaker c.report_buffered-reported.result (λ reported by. reported (moved_by c.take_room-room.ensures by)) c.report_buffered-reported.ensures.reported
+pub returns-in-Err-clause-fault : goal.returns-in-Err-clause-fault
+returns-in-Err-clause-fault g c by =
+    let t : Task = record { what = c.args.what; name = c.args.name; with_name = c.args.with_name } in
+    some_of (g.R.Read.remaining c.args.reader.now) _
+    (λ text is. text_part t (found_by by) c.args.known c.new-progress.result c.over-read.result text (g.W.Write.contents c.args.writer.now)
+    (g.W.Write.contents c.report_blocks.new.writer)
+    c.over-read.ensures (c.new-progress.ensures.starts t c.first_of.ensures (with_needed_spans c.args.what.now (found_by by)))
+    (c.in-Err.ensures.fault (moved_by c.take_room-room.ensures by) text is))
 
-pub returns-clause-selected : goal.returns-clause-selected
-returns-clause-selected g c =
-    IfOk-weaker c.report_buffered-reported.result _ _ (λ n selected by. selected (moved_by c.take_room-room.ensures by)) c.report_buffered-reported.ensures.selected
+pub returns-in-Ok-finish-clause-reported : goal.returns-in-Ok-finish-clause-reported
+returns-in-Ok-finish-clause-reported g c by =
+    let t : Task = record { what = c.args.what; name = c.args.name; with_name = c.args.with_name } in
+    some_of (g.R.Read.remaining c.args.reader.now) _
+    (λ text is. let a = c.in-Ok.ensures.reads (moved_by c.take_room-room.ensures by) text is in
+    text_written t (found_by by) c.args.known c.new-progress.result c.report_blocks.new.progress c.over-read.result c.report_blocks.new.read
+    c.bytes.result.now text
+    (g.R.Read.remaining c.report_blocks.new.reader) (g.W.Write.contents c.args.writer.now) (g.W.Write.contents c.report_blocks.new.writer)
+    (g.W.Write.contents c.finish.new.writer)
+    c.over-read.ensures c.bytes.ensures (c.new-progress.ensures.starts t c.first_of.ensures (with_needed_spans c.args.what.now (found_by by))) a
+    (c.in-Ok-finish.ensures.written (moved_by (c.in-Ok.ensures.same ∙ c.take_room-room.ensures) by) a.rest
+    (λ ended. at_end (g.R.Read.remaining c.report_blocks.new.reader) a.rest a.is_left (c.in-Ok.ensures.end ended))))
+
+pub returns-in-Ok-finish-clause-selected : goal.returns-in-Ok-finish-clause-selected
+returns-in-Ok-finish-clause-selected g c by =
+    let t : Task = record { what = c.args.what; name = c.args.name; with_name = c.args.with_name } in
+    some_of (g.R.Read.remaining c.args.reader.now) _
+    (λ text is. let a = c.in-Ok.ensures.reads (moved_by c.take_room-room.ensures by) text is in
+    text_counted t (found_by by) c.new-progress.result c.report_blocks.new.progress c.over-read.result c.report_blocks.new.read
+    c.bytes.result.now text
+    (g.R.Read.remaining c.report_blocks.new.reader) (g.W.Write.contents c.args.writer.now)
+    (g.W.Write.contents c.report_blocks.new.writer) c.count_of.result _
+    c.over-read.ensures c.bytes.ensures (c.new-progress.ensures.counts t (with_needed_spans c.args.what.now (found_by by))) a
+    (c.count_of.ensures t (with_needed_spans c.args.what.now (found_by by)))
+    (c.in-Ok-finish.ensures.counts (moved_by (c.in-Ok.ensures.same ∙ c.take_room-room.ensures) by) a.rest
+    (λ ended. at_end (g.R.Read.remaining c.report_blocks.new.reader) a.rest a.is_left (c.in-Ok.ensures.end ended))))
 
 pub returns-clause-fault : goal.returns-clause-fault
-returns-clause-fault g c =
-    IfErr-weaker c.report_buffered-reported.result _ _ (λ e fault by. fault (moved_by c.take_room-room.ensures by)) c.report_buffered-reported.ensures.fault
+returns-clause-fault g c by =
+    let t : Task = record { what = c.args.what; name = c.args.name; with_name = c.args.with_name } in
+    some_of (g.R.Read.remaining c.args.reader.now) _
+    (λ text is. let a = c.in-Ok.ensures.reads (moved_by c.take_room-room.ensures by) text is in
+    rest_part t (found_by by) c.args.known c.new-progress.result c.report_blocks.new.progress c.over-read.result c.report_blocks.new.read
+    c.bytes.result.now text
+    (g.R.Read.remaining c.report_blocks.new.reader) (g.W.Write.contents c.args.writer.now) (g.W.Write.contents c.report_blocks.new.writer)
+    (g.W.Write.contents c.finish.new.writer)
+    c.over-read.ensures c.bytes.ensures (c.new-progress.ensures.starts t c.first_of.ensures (with_needed_spans c.args.what.now (found_by by))) a
+    (c.in-Err-finish.ensures.fault (moved_by (c.in-Ok.ensures.same ∙ c.take_room-room.ensures) by) a.rest
+    (λ ended. at_end (g.R.Read.remaining c.report_blocks.new.reader) a.rest a.is_left (c.in-Ok.ensures.end ended))))

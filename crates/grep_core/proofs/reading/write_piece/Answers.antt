@@ -20,11 +20,11 @@ returns-in-Ok-write_out-clause-writes g c by more =
     piece_written c.args.task (finds_by c.args.task by) c.args.progress.now c.report_block.new.progress c.args.read.now more
     c.new-out.result.items c.report_block.new.out.items c.deref.result.now c.args.len c.in-Ok.done
     (g.W.Write.contents c.args.writer.now) (g.W.Write.contents c.write_out.new.writer) c.requires.within c.in-Ok.ensures.within
-    c.new-out.ensures.items c.deref.ensures.value (c.in-Ok.ensures.goes_on by) (c.in-Ok.ensures.counts by) c.in-Ok-write_out.ensures.ok
+    c.new-out.ensures.items c.deref.ensures.value (c.in-Ok.ensures.reports.goes_on by) (c.in-Ok.ensures.reports.counts by) c.in-Ok-write_out.ensures.ok
 
 pub returns-clause-fault : goal.returns-clause-fault
 returns-clause-fault g c by more =
     piece_part c.args.task (finds_by c.args.task by) c.args.progress.now c.report_block.new.progress c.args.read.now more
     c.new-out.result.items c.report_block.new.out.items c.deref.result.now c.args.len c.in-Ok.done
     (g.W.Write.contents c.args.writer.now) (g.W.Write.contents c.write_out.new.writer) c.requires.within c.in-Ok.ensures.within
-    c.new-out.ensures.items c.deref.ensures.value (c.in-Ok.ensures.goes_on by) c.in-Err-write_out.ensures.part
+    c.new-out.ensures.items c.deref.ensures.value (c.in-Ok.ensures.reports.goes_on by) c.in-Err-write_out.ensures.part

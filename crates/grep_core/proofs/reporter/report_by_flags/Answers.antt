@@ -7,10 +7,10 @@ use Rattle.grep_core.proofs.reporter.report_by_flags.Goals as goal
 
 pub returns-then-prints_lines-clause-goes_on : goal.returns-then-prints_lines-clause-goes_on
 returns-then-prints_lines-clause-goes_on c =
-    lines_told c.next_line.result c.args.what.now.print c.args.what.now c.args.course.now c.next_line.new.course c.args.is_selected
-    (item (text_line c.args.line) (map span_pair c.args.found.now)) c.args.out.now.items c.next_line.new.out.items
+    lines_told c.advance.result c.args.what.now.print c.args.what.now c.args.course.now c.advance.new.course c.args.is_selected
+    (item (text_line c.args.line) (map span_pair c.args.found.now)) c.args.out.now.items c.advance.new.out.items
     (option_map (λ n. n.now) c.args.name)
-    (sym c.prints_lines.ensures ∙ c.if-prints_lines.true) c.next_line.ensures.goes_on
+    (sym c.prints_lines.ensures ∙ c.if-prints_lines.true) c.advance.ensures.goes_on
 
 pub returns-clause-goes_on : goal.returns-clause-goes_on
 returns-clause-goes_on c text with_name n m flags items named more =
