@@ -31,6 +31,7 @@ QUIRKS = {
     'gone': "with -r context lines are also printed around lines of which nothing is left",
     'beyond': "with -r an empty match after the last line feed is replaced there",
     'absent': "-o prints nothing for a part of a replacement that is empty",
+    'edge': "with --vimgrep an empty replacement isn't printed at the end of a line without a line feed",
     'bare': "with --vimgrep a line of what is replaced is printed also if no replacement begins in it",
     'rest': "with -r the text from each block to the end is printed with its matches replaced, and not the block alone",
     'heading': "with -o the heading stands also above nothing",
@@ -301,6 +302,7 @@ def report(patterns, text, o, quirks=frozenset()):
                 first = i if beside else next(k for k in range(len(lines)) if begins_in(ms, lines[k]) and own.get(k) is own.get(i))
                 if first != i and not ('long' in q and not beside and all(is_long(whole(lines[k])) for k in range(first, i))): continue
                 if 'start' in q and ms == me == place and not beside: continue
+                if 'edge' in q and ms == me == place + whole(line): continue
                 offset = place if 'vimgrep' in q and not beside else place + s
                 out += fields(s + 1, offset) + body([(s, e)], 1 if 'omitted' in q and block and False else shown) + b'\n'
         else:
