@@ -1,8 +1,7 @@
 #!/usr/bin/env python3
 """What --multiline prints, as a model that is compared with `rg -U` of ripgrep 13 over random patterns, texts and options: -n -b -H
---column -c --count-matches -o -v -m -A -B -C -l -L -q --passthru --trim -M --vimgrep --heading --color -x -i -F --crlf -r. hirgrep doesn't have the
-last one of them with --multiline yet. `report` is the definition
-of hirgrep in Python: matches are those of the whole text, and each line is printed with the parts of matches that are in it. Each
+--column -c --count-matches -o -v -m -A -B -C -l -L -q --passthru --trim -M --vimgrep --heading --color -x -i -F --crlf -r. `report` is the definition of hirgrep in
+Python: matches are those of the whole text, and each line is printed with the parts of matches that are in it. Each
 difference from ripgrep has a name in QUIRKS, and stands at the line of `report` that it changes. With all of them the model prints what
 ripgrep prints. Run it with rg 13 in PATH: multiline.py [SEED [COUNT]]. It prints how many runs differ, and how many of them differ
 without each of the quirks alone, which says what each one explains."""
@@ -28,7 +27,12 @@ QUIRKS = {
     'alone': "with -v each context line is searched by itself for the matches that are marked in it",
     'trim': "with -o the white space at the beginning of the line is left out, and not that of each match",
     'omitted': "the matches of the block are counted in the text that stands for a long line",
-    'blocks': "with -r offsets and numbers of adjacent lines count from the first of them, also if no match takes the line feed between them",
+    'apart': "with -r adjacent lines aren't replaced together if the pattern can't match a line feed, so the offsets of each count by themselves",
+    'gone': "with -r context lines are also printed around lines of which nothing is left",
+    'beyond': "with -r an empty match after the last line feed is replaced there",
+    'absent': "-o prints nothing for a part of a replacement that is empty",
+    'edge': "with --vimgrep an empty replacement isn't printed at the end of a line without a line feed",
+    'bare': "with --vimgrep a line of what is replaced is printed also if no replacement begins in it",
     'rest': "with -r the text from each block to the end is printed with its matches replaced, and not the block alone",
     'heading': "with -o the heading stands also above nothing",
     'empty': "-o prints empty matches if the pattern can't match a line feed (a difference without --multiline, too)",
@@ -126,11 +130,11 @@ def expanded(template, m):
     """The template for a match. Only `$0`, `$1` and `$$` are used here."""
     return re.sub(rb'\$(\$|[0-9])', lambda t: b'$' if t[1] == b'$' else (m.group(int(t[1])) or b'') if int(t[1]) <= m.re.groups else b'', template)
 
-def replaced_block(rx, template, text, start, end, found):
+def replaced_block(rx, template, text, start, end, found, beyond):
     """The text between two offsets with the template instead of each match that begins there, and where the templates are in it."""
-    out = b''; at = start; spans = []
+    at = max([start] + [min(e, end) for s, e in found if s < start]); out = b''; spans = []
     for s, e in found:
-        if not (start <= s < end or s == e == end == len(text)): continue
+        if not (start <= s < end or s == e == end == len(text) and (beyond or not text.endswith(b'\n'))): continue
         m = rx.match(text, s)
         out += text[at:s]; first = len(out)
         out += expanded(template, m)
@@ -138,31 +142,27 @@ def replaced_block(rx, template, text, start, end, found):
         at = max(at, min(e, end))
     return out + text[at:end], spans
 
-def is_joined(line, found):
-    """Whether a match takes the line feed of a line."""
-    n, place, l, ended = line
-    return any(s <= place + len(l) < e for s, e in found)
-
-def replaced(rx, template, text, lines, sel, found, joins, rest):
-    """The lines that are printed instead of selected ones: those of the text of adjacent ones between which a match takes the line feed, with
-    the matches that begin there replaced. Numbers and offsets count from those of its first line."""
+def replaced(rx, template, text, lines, sel, found, inv, each, q):
+    """The lines that are printed if matches are replaced. Adjacent selected lines are replaced together, and with -v each line by itself, as
+    each that isn't selected is. The numbers and offsets of the lines that come of it count on from those of the first line. If a line is printed
+    for each match, a selected one in which no replacement begins isn't printed."""
     new, new_sel, own, new_blocks = [], [], {}, {}
     i = 0
     while i < len(lines):
-        if not sel[i]:
-            new.append(lines[i]); new_sel.append(False); i += 1
-            continue
-        j = i
-        while j < len(lines) and sel[j] and (j == i or joins or is_joined(lines[j - 1], found)): j += 1
+        j = i + 1
+        while sel[i] and not inv and 'apart' not in q and j < len(lines) and sel[j]: j += 1
         number, start = lines[i][0], lines[i][1]
         end = lines[j - 1][1] + whole(lines[j - 1])
-        out, spans = replaced_block(rx, template, text, start, len(text) if rest else end, found)
+        out, spans = replaced_block(rx, template, text, start, len(text) if 'rest' in q and sel[i] and not inv else end, found, 'beyond' in q and sel[i])
         a = len(new)
-        rows = [(number + k - 1, start + p, l, ended) for k, p, l, ended in text_lines(out)]
-        for row in rows:
+        for k, p, l, ended in text_lines(out):
+            row = (number + k - 1, start + p, l, ended)
+            if each and not inv and sel[i] and not any(begins_in(s, row) for s, e in spans): continue
             own[len(new)] = spans
-            new.append(row); new_sel.append(True)
-        for k in range(a, len(new)): new_blocks[k] = (a, len(new), spans)
+            new.append(row); new_sel.append(sel[i])
+        if 'gone' in q and sel[i] and a == len(new): new.append((0, -1, b'', True)); new_sel.append(True)
+        if sel[i]:
+            for k in range(a, len(new)): new_blocks[k] = (a, len(new), spans)
         i = j
     return new, new_sel, own, new_blocks
 
@@ -182,7 +182,7 @@ def report(patterns, text, o, quirks=frozenset()):
     rx = expression(patterns, how, rg)
     lines = text_lines(text)
     multi = can_feed(patterns, how)
-    q = quirks if multi else quirks & {'last', 'heading', 'empty', 'lines', 'returns', 'none'}
+    q = quirks - {'apart'} if multi else quirks & {'last', 'heading', 'empty', 'lines', 'returns', 'none', 'apart'}
     inv = bool(o.get('v'))
     strips = rg and crlf and ('x' in how or 'F' not in how and all(p.endswith(b'$') for p in patterns))
     found = list(matches(rx, text, 0, strips))
@@ -199,7 +199,7 @@ def report(patterns, text, o, quirks=frozenset()):
         if not inv: touched = [any(a <= i < b for a, b, _ in blocks) for i in range(len(lines))]
         elif 'invert' in q: touched = seen
     wanted = [t != inv for t in touched]
-    if o.get('vimgrep') and not inv and not (multi and 'hidden' in quirks):  # a line is selected if a match begins in it
+    if o.get('vimgrep') and not inv and o.get('r') is None and not (multi and 'hidden' in quirks):  # a line is selected if a match begins in it
         wanted = [t and any(begins_in(s, line) for s, e in found) for t, line in zip(touched, lines)]
     if 'limit' in q and o.get('m') is not None and not inv:
         sel = [False] * len(lines)
@@ -234,7 +234,10 @@ def report(patterns, text, o, quirks=frozenset()):
     for a, b, ms in blocks:
         for i in range(a, b): block_at[i] = (a, b, ms)
     own = {}
-    if o.get('r') is not None and not inv: lines, sel, own, block_at = replaced(rx, o['r'], text, lines, sel, every if 'last' in q else found, multi and 'blocks' in q, 'rest' in q)
+    printed = touched
+    if o.get('r') is not None:
+        lines, sel, own, block_at = replaced(rx, o['r'], text, lines, sel, every if 'last' in q else found, inv, o.get('vimgrep') and 'bare' not in q, q)
+        printed = sel
     A, B = o.get('A', 0), o.get('B', 0)
     passthru = o.get('passthru')
     heading = o.get('heading') and name
@@ -246,6 +249,7 @@ def report(patterns, text, o, quirks=frozenset()):
         if not sel[i] and not beside: continue
         if (A or B) and not passthru and last is not None and i != last + 1: out += b'--\n'
         last = i
+        if place < 0: continue
         sep = b':' if sel[i] else b'-'
         has_marks = sel[i] != inv
         block = block_at.get(i)
@@ -279,7 +283,7 @@ def report(patterns, text, o, quirks=frozenset()):
         if o.get('vimgrep') and not inv: shown = sum(1 for m in mine if begins_in(m[0], line))  # those that are printed
         if 'omitted' in q and block and has_marks and not inv: shown = len(block[2])
         if not (o.get('column') or o.get('color') or o.get('vimgrep') or i in own) and not o.get('o'): shown = 0
-        if o.get('o') and not ('last' in q and (block and not block[2] if multi else touched[i] and not mine)):
+        if o.get('o') and not ('last' in q and (block and not block[2] if multi else printed[i] and not mine)):
             if not has_marks: continue
             for (s, e), (ms, me) in zip(spans, mine):
                 part = l[s:e]
@@ -290,7 +294,7 @@ def report(patterns, text, o, quirks=frozenset()):
                 else: drop = trimmed(part) if not is_long(len(part)) else 0
                 if 'offset' in q and block:
                     column, offset = ms - lines[block[0]][1] + 1, ms
-                if not part and not ('empty' in q and not multi): continue
+                if not part and not ('empty' in q and not multi or o.get('r') is not None and 'absent' not in q): continue
                 if is_long(len(part)): out += fields(column, offset) + omission(0) + b'\n'
                 else: out += fields(column, offset) + red(part[drop:]) + b'\n'
         elif o.get('vimgrep') and has_marks and (mine or (block and block[2])):
@@ -298,6 +302,7 @@ def report(patterns, text, o, quirks=frozenset()):
                 first = i if beside else next(k for k in range(len(lines)) if begins_in(ms, lines[k]) and own.get(k) is own.get(i))
                 if first != i and not ('long' in q and not beside and all(is_long(whole(lines[k])) for k in range(first, i))): continue
                 if 'start' in q and ms == me == place and not beside: continue
+                if 'edge' in q and ms == me == place + whole(line): continue
                 offset = place if 'vimgrep' in q and not beside else place + s
                 out += fields(s + 1, offset) + body([(s, e)], 1 if 'omitted' in q and block and False else shown) + b'\n'
         else:
@@ -360,6 +365,8 @@ def blocks_of(rx, text, lines, inv, all_found, slices, strips):
 PATTERNS = [rb'a\nb', rb'b\n', rb'\na', rb'\n', rb'a\n+b', rb'[^a]+', rb'a[^b]*b', rb'^a', rb'b$', rb'^', rb'$', rb'^$', rb'a', rb'ab', rb'\s+', rb'b\s*a', rb'x*', rb'(?:a|b\n)+',
             rb'c?\n', rb'^b\n^a', rb'a$\n', rb'\w+\n\w', rb'a|b\n', rb' a', rb'b\n ', rb'\n\n', rb'c\b', rb'[ab]\n[ab]', rb'[^\n]+\n', rb'A\nB', rb'.+\n', rb'a.', rb'(?s:a.b)']
 
+TEMPLATES = [b'', b'X', b'<$0>', b'yy zz', b'$$']
+
 def words(o):
     w = ['-U', '--no-config', '-a']
     for k in o['how']: w += ['--crlf'] if k == 'crlf' else ['-' + k]
@@ -411,7 +418,7 @@ def case(rnd, replaces=False):
     if o.get('m') is not None and (o.get('A') or o.get('B')): o.pop('m')
     if o.get('v') and o.get('color') and rnd.random() < .5: o['A'] = o['B'] = 1; o.pop('m', None); o.pop('passthru', None)
     if replaces:
-        o['r'] = rnd.choice([b'', b'X', b'<$0>', b'yy zz', b'$$'])
+        o['r'] = rnd.choice(TEMPLATES)
         for k in ['v', 'count', 'count_matches', 'l', 'L', 'q', 'passthru', 'M']: o.pop(k, None)  # with -M ripgrep counts the matches of the rest
     letters = b'aabbcx AB \t' if any(re.search(rb'\[\^|\.|\\W', p) for p in pats) else b'aabbcx AB \t\xff'  # a byte that isn't UTF-8 is no character
     end = b'\r\n' if 'crlf' in o['how'] and rnd.random() < .8 else b'\n'

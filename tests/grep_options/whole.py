@@ -51,6 +51,23 @@ ROWS = [
     (("--multiline", "--heading", "-H", r"b\na", "lines"), 0, b"lines\none ab\nab two\n"),
     (("--multiline", "-q", r"ab\nab", "lines"), 0, b""),
     (("--multiline", "-l", r"ab\nab", "lines", "records"), 0, b"lines\nrecords\n"),
+    # matches over several lines are replaced, and what comes of adjacent lines is printed line by line
+    (("--multiline", "--replace=<$1>", r"(a)b\nab", "lines"), 0, b"one <a> two\n"),
+    (("--multiline", "--replace=x", "-n", "-b", r"ab\nab|h|e$", "lines"), 0, b"1:0:one x two\n4:15:txrex\n"),
+    (("--multiline", "--replace=x", "-o", "-n", "-b", "--column", r"ab\nab|e$", "lines"), 0, b"1:5:4:x\n4:5:19:x\n"),
+    (("--multiline", "--replace=x\ny", "-n", r"ab\nab", "lines"), 0, b"1:one x\n2:y two\n"),
+    (("--multiline", "--replace=x", "-n", r"two\n|ab$", "lines"), 0, b"1:one x\n2:ab x\n5:x\n"),
+    (("--multiline", "--replace=", r"three\n", "lines"), 0, b""),
+    (("--multiline", "--replace=-", "-A1", "-n", r"ab\nab", "lines"), 0, b"1:one - two\n3-\n"),
+    (("--multiline", "--replace=-", "--passthru", r"ab\nab", "lines"), 0, b"one - two\n\nthree\nab\n"),
+    (("--multiline", "--replace=x", "-v", "-B1", r"ab\nab", "lines"), 0, b" two\n\nthree\nab\n"),
+    (("--multiline", "--replace=x", "-m1", "-A1", r"ab\nab", "lines"), 0, b"one x\n two\n"),
+    (("--multiline", "--replace=x", "--vimgrep", r"ab\nab", "lines"), 0, b"lines:1:5:one x two\n"),
+    (("--multiline", "--replace=x", "-c", r"ab\nab", "lines"), 0, b"2\n"),
+    (("--multiline", "--replace=x", "--count-matches", r"ab\nab", "lines"), 0, b"1\n"),
+    (("--multiline", "--replace=x", "-l", r"ab\nab", "lines"), 0, b"lines\n"),
+    (("--multiline", "--replace=<$0>", "--crlf", r"b$", "returns"), 0, b"a<b>\r\na<b>\r\n"),
+    (("--multiline", "--replace=x", "--trim", "-M5", r"e ab\nab", "lines"), 0, b"[Omitted long line with 1 matches]\n"),
     # lines as JSON
     (("--json", "-q", "ab", "lines"), 0, b""),
     (("--json", "--no-json", "-c", "ab", "lines"), 0, b"3\n"),
@@ -94,7 +111,6 @@ ROWS = [
 REJECTED = [
     ("-z", "--multiline", "ab"),
     ("-z", "--json", "ab"),
-    ("--multiline", "--replace=x", "ab"),
     ("--json", "-c", "ab"),
     ("--json", "--count-matches", "ab"),
     ("--json", "-l", "ab"),
@@ -141,11 +157,14 @@ def multiline_words(o):
     words += ["-H" if o.get("H") else "-h"]
     words += [] if o.get("n") else ["-N"]
     words += [] if o.get("column") else ["--no-column"]
+    words += [f"--replace={o['r'].decode()}"] if o.get("r") is not None else []
     return words + [it for name in "mABM" if o.get(name) is not None for it in (f"-{name}", str(o[name]))]
 
 
 def compare_multiline(program, place, run, tell, rng):
     pats, text, o = multiline.case(rng)
+    if rng.random() < 0.4:
+        o["r"] = rng.choice(multiline.TEMPLATES + [b"x\ny", b"\n", b"z\n"])
     o.pop("color", None)
     if not o.get("A") and not o.get("B"):  # ripgrep separates no groups then, and GNU grep does
         o.pop("A", None), o.pop("B", None)

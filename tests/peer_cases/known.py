@@ -30,7 +30,6 @@ RIPGREP = {
     "regression r1446_respect_excludes_in_worktree": "`.git/info/exclude` is read in the main work tree alone",
     "regression r210": "a name that isn't UTF-8",
     "json notutf8": "a name that isn't UTF-8",
-    "regression r1311_multi_line_term_replace": "`--multiline` doesn't go with `--replace`",
     "regression r599": "`--color` has the words of GNU grep",
     "regression r1130": GREP_HABIT + ": the status of `-L` says whether a line is selected",
 }

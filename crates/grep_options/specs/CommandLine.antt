@@ -339,16 +339,10 @@ null_option = record (flag (codes "null-data") (codes "z")) {
   excludes = codes "multiline" ∷ codes "json" ∷ [];
 }
 
-abbrev pub multiline_option : OptionRow
-multiline_option = record (flag (codes "multiline") []) {
-  turns_off = codes "no-multiline" ∷ [];
-  excludes = codes "replace" ∷ [];
-}
-
 -- Matches over several lines. Of the first two the later one takes effect, and of the last two.
 abbrev pub text_options : List OptionRow
 text_options =
-    multiline_option
+    flag_over (codes "multiline") [] (codes "no-multiline")
     ∷ flag_over (codes "no-multiline") [] (codes "multiline")
     ∷ flag_over (codes "multiline-dotall") [] (codes "no-multiline-dotall")
     ∷ flag_over (codes "no-multiline-dotall") [] (codes "multiline-dotall")

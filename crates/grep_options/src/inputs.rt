@@ -1,7 +1,7 @@
 //! Options on inputs that are read as a whole: records that end in zero bytes, matches over several lines, and JSON.
 ghost use Rattle.std.specs.Prelude.{◌≡◌, ◌∷◌, [], OnOk, IfOk, codes};
 ghost use Rattle.clap.specs.declared.builder.action.ArgAction.TheVariants.{Set};
-ghost use Rattle.grep_options.specs.CommandLine.{AddsOptions, excluding, flag_over, input_options, json_option, json_options, multiline_option, null_option, option, option_row};
+ghost use Rattle.grep_options.specs.CommandLine.{AddsOptions, excluding, flag_over, input_options, json_option, json_options, null_option, option, option_row};
 ghost use Rattle.grep_options.specs.CommandLine.{text_options};
 
 use crate::ignoring::push_switch;
@@ -34,20 +34,12 @@ pub(crate) fn push_crlf<'a>(alloc: Global, args: &mut Vec<Arg<'a>>) -> Result<()
     push_switch(alloc, args, "crlf", "null-data", help)
 }
 
-fn push_multiline<'a>(alloc: Global, args: &mut Vec<Arg<'a>>) -> Result<(), AllocError>
-    ensures { OnOk result (AddsOptions args.old.items args.new.items (multiline_option ∷ [])) }
-{
-    let help = "matches may span lines, and each line that a match touches is selected";
-    let arg = option(alloc, "multiline", ArgAction::SetTrue, help);
-    let arg = excluding(arg, "replace")?;
-    push_over(args, arg, "no-multiline")
-}
-
 /// Appends the options on matches over several lines.
 fn push_texts<'a>(alloc: Global, args: &mut Vec<Arg<'a>>) -> Result<(), AllocError>
     ensures { OnOk result (AddsOptions args.old.items args.new.items text_options) }
 {
-    push_multiline(alloc, args)?;
+    let help = "matches may span lines, and each line that a match touches is selected";
+    push_switch(alloc, args, "multiline", "no-multiline", help)?;
     let help = "each line is searched by itself: the default";
     push_switch(alloc, args, "no-multiline", "multiline", help)?;
     let (all, not_all) = ("multiline-dotall", "no-multiline-dotall");

@@ -14,7 +14,7 @@ use Rattle.line_search.specs.Searchers.{SearchesFor, Sought}
 use Rattle.line_search.specs.declared.patterns.PatternOptions.{PatternOptions}
 use Rattle.grep_core.specs.Report.{counted_as, report, selected_count}
 use Rattle.text_report.specs.Records.{report_records, selected_records}
-use Rattle.text_report.specs.TextReports.{report_text, selected_in_text}
+use Rattle.text_report.specs.ReplacedText.{report_text, selected_in_text}
 use Rattle.text_report.specs.Events.{json_report, json_stats}
 use Rattle.text_report.specs.TextEvents.{json_of_text, json_text_stats}
 use Rattle.hirgrep_main.specs.Binaries.{is_binary, options_by, searched_bytes}
@@ -51,7 +51,7 @@ matcher m = finds_of m.how m.names m.patterns
 abbrev pub body : Reading → OutputOptions → ReadPatterns → List ℕ → Bool → SeparatorState → List ℕ → List ℕ
 body Lines w m name with_name known bytes = report w (matcher m) name with_name known bytes
 body Records w m name with_name known bytes = report_records w (matcher m) name with_name known bytes
-body Text w m name with_name known bytes = report_text w m.how m.patterns name with_name known bytes
+body Text w m name with_name known bytes = report_text w m.how m.names m.patterns name with_name known bytes
 body Events w m name with_name known bytes = json_report w (matcher m) name no_time bytes
 body TextEvents w m name with_name known bytes = json_of_text w m.how m.patterns name no_time bytes
 

@@ -5,9 +5,12 @@ mod EventPieceLemmas
 mod EventReportLemmas
 mod LineLemmas
 mod LineMatchLemmas
+mod NewLineLemmas
+mod NewReportLemmas
 mod OrderLemmas
 mod RecordLemmas
 mod RecordRows
+mod ReplacedLemmas
 mod ReportLemmas
 mod SeenLemmas
 mod TouchedLemmas

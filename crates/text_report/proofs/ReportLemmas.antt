@@ -134,7 +134,7 @@ module _ (t : TextTask) where
   ends_part o p u w v a none part =
       then_part o p u w v a (part.0, subst (λ lines. Appends w v (take part.0 (reported_left t p.telling lines))) (sym none) part.1)
 
-  none_limited : (most : Option ℕ) → limited most [] ≡ []
+  pub none_limited : (most : Option ℕ) → limited most [] ≡ []
   none_limited None = refl
   none_limited (Some zero) = refl
   none_limited (Some (suc n)) = refl
@@ -185,7 +185,7 @@ module _ (w : OutputOptions) (name : List ℕ) (with_name : Bool) (known : Separ
   all_items NameIfNone = ap (λ n. if nat_lt 0 n then [] else name_line w name) (none_before (count_selected flags))
   all_items Nothing = refl
 
-none_yet : (b : Bool) (m n : ℕ) → m ≡ 0 → n ≡ 0 → (if b then m else n) ≡ 0
+pub none_yet : (b : Bool) (m n : ℕ) → m ≡ 0 → n ≡ 0 → (if b then m else n) ≡ 0
 none_yet true m n first second = first
 none_yet false m n first second = second
 

@@ -6,3 +6,5 @@ pub mod Touching
 pub mod Events
 pub mod TextEvents
 pub mod EventCourse
+pub mod ReplacedText
+pub mod ReplacedProgress

@@ -55,9 +55,9 @@ report_found w crlf name with_name known found text =
 abbrev pub selected_in_found : OutputOptions → List (ℕ × ℕ) → List ℕ → ℕ
 selected_in_found w found text = count_selected (selected_in w found (text_lines text))
 
--- What is printed for a text. Its matches are those of the whole text, from left to right.
-abbrev pub report_text : OutputOptions → PatternOptions → List Re → List ℕ → Bool → SeparatorState → List ℕ → List ℕ
-report_text w how res name with_name known text = report_found w how.crlf name with_name known (spans_in how res text) text
+-- What is printed for a text with its matches as they are. They are those of the whole text, from left to right.
+abbrev pub report_as_it_is : OutputOptions → PatternOptions → List Re → List ℕ → Bool → SeparatorState → List ℕ → List ℕ
+report_as_it_is w how res name with_name known text = report_found w how.crlf name with_name known (spans_in how res text) text
 
-abbrev pub selected_in_text : OutputOptions → PatternOptions → List Re → List ℕ → ℕ
-selected_in_text w how res text = selected_in_found w (spans_in how res text) text
+abbrev pub selected_as_it_is : OutputOptions → PatternOptions → List Re → List ℕ → ℕ
+selected_as_it_is w how res text = selected_in_found w (spans_in how res text) text

@@ -84,7 +84,7 @@ fn take_line(task: EventTask<'_>, turn: &mut Turn, at: usize) -> Result<Group, F
 }
 
 /// Whether lines in this role are selected.
-fn is_selected(role: Role) -> bool
+pub(crate) fn is_selected(role: Role) -> bool
     ensures { result ≡ is_selected role }
 {
     match role {

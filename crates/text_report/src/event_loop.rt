@@ -184,7 +184,7 @@ fn push_next(
 }
 
 /// Writes what is held, if it is enough and a line is among it. `end` is the offset after the last line that is printed, or 0.
-fn write_held<W: Write>(
+pub(crate) fn write_held<W: Write>(
     writer: &mut W,
     out: &mut Vec<u8>,
     end: u64,

@@ -16,6 +16,9 @@ mod event_reports;
 mod events;
 mod lines;
 mod records;
+mod replaced_lines;
+mod replaced_offsets;
+mod replacing;
 mod reporting;
 mod selecting;
 mod text_lines;
@@ -26,7 +29,7 @@ mod turns;
 pub use event_reports::{report_events, report_text_events};
 pub use lines::{LineSpan, line_at};
 pub use records::report_records;
-pub use reporting::report_text;
+pub use replacing::report_text;
 pub use text_lines::{SeenLine, TextPosition, first_position, next_line, position_after};
 pub use touching::{
     begins_between, counts_at, first_touching, from_index, has_one, part_at, push_parts, touches_at,

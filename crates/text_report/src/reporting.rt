@@ -8,7 +8,7 @@ ghost use Rattle.grep_core.specs.ContextPrinting.{Waits};
 ghost use Rattle.grep_core.specs.Report.{counted_as};
 ghost use Rattle.text_report.specs.LineSpans.{line_of};
 ghost use Rattle.text_report.specs.TextProgress.{ReportsLines, WritesTextLines, WritesPrefix, count_left, matches_of_task, lines_left, reported_left};
-ghost use Rattle.text_report.specs.TextReports.{by_starts, counts_begun, text_item, report_found, report_text, selected_in_found, selected_in_text};
+ghost use Rattle.text_report.specs.TextReports.{by_starts, counts_begun, text_item, report_as_it_is, report_found, selected_as_it_is, selected_in_found};
 ghost use Rattle.text_report.specs.Touching.{AreBefore, StartInOrder, has_match_of, parts_in};
 
 use crate::lines::LineSpan;
@@ -47,7 +47,7 @@ pub struct TextProgress {
 }
 
 /// Whether a line is selected only if a match begins in it.
-fn by_starts(what: &OutputOptions<'_>) -> bool
+pub(crate) fn by_starts(what: &OutputOptions<'_>) -> bool
     ensures { result ≡ by_starts what.now }
 {
     what.each_match && prints_lines(what.print) && !what.invert
@@ -61,7 +61,7 @@ fn counts_begun(what: &OutputOptions<'_>) -> bool
 }
 
 /// The parts of matches that are shown in a line. The matches before this index are before the line.
-fn parts_of(
+pub(crate) fn parts_of(
     alloc: Global,
     task: TextTask<'_>,
     line: LineSpan,
@@ -237,7 +237,7 @@ fn write_lines<W: Write>(
 }
 
 /// Writes what is printed after the last line, and flushes the writer.
-fn write_end<W: Write>(
+pub(crate) fn write_end<W: Write>(
     alloc: Global,
     writer: &mut W,
     task: TextTask<'_>,
@@ -300,16 +300,8 @@ fn report_found<W: Write>(
     }
 }
 
-/// Searches a text as a whole, and writes what is printed for it. Matches may span lines, and each line that a match touches is selected.
-/// Returns the number of selected lines. If names of inputs are asked for, or nothing, the number is at most 1.
-///
-/// All matches of the text are in memory. The output is written whenever 64 KiB are held. On an error, a prefix of it was written.
-///
-/// `known` says whether lines of earlier inputs were printed. It decides whether a separator line precedes the first group of lines of this
-/// text.
-///
-/// Precondition: the finder may be asked for matches, so the body of every unbounded repetition in the patterns consumes at least one byte.
-pub fn report_text<W: Write>(
+/// Searches a text as a whole, and writes what is printed for it with its matches as they are. Returns the number of selected lines.
+pub(crate) fn report_as_it_is<W: Write>(
     alloc: Global,
     finder: &mut Finder<'_>,
     what: &OutputOptions<'_>,
@@ -321,11 +313,11 @@ pub fn report_text<W: Write>(
 ) -> Result<u64, Fault>
     ensures same { finder.new ≡ finder.old }
     ensures reported { OnOk result ((by : SearchesFor finder.old true) → Appends (W.contents writer.old) (W.contents writer.new)
-        (report_text what.now by.how by.patterns name.now with_name known text.now)) }
+        (report_as_it_is what.now by.how by.patterns name.now with_name known text.now)) }
     ensures selected { IfOk result (λ n. (by : SearchesFor finder.old true) →
-        n ≡ counted_as what.now.print (selected_in_text what.now by.how by.patterns text.now)) }
+        n ≡ counted_as what.now.print (selected_as_it_is what.now by.how by.patterns text.now)) }
     ensures fault { IfErr result (λ _. (by : SearchesFor finder.old true) → (n : ℕ) × Appends (W.contents writer.old) (W.contents writer.new)
-        (take n (report_text what.now by.how by.patterns name.now with_name known text.now))) }
+        (take n (report_as_it_is what.now by.how by.patterns name.now with_name known text.now))) }
 {
     let crlf = finder.crlf();
     let found = match finder.matches(alloc, text) {

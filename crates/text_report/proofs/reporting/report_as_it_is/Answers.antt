@@ -2,7 +2,7 @@ use Rattle.std.proofs.Common.{◌∙◌, ℕ, List, ap, subst, take}
 use Rattle.std.specs.Io.KnownBytes.{Appends}
 use Rattle.grep_core.specs.Report.{counted_as}
 use Rattle.text_report.proofs.WholeTextLemmas.{are_ordered, whole_count, whole_text}
-use Rattle.text_report.proofs.reporting.report_text.Goals as goal
+use Rattle.text_report.proofs.reporting.report_as_it_is.Goals as goal
 
 pub returns-in-Ok-report_found-clause-reported : goal.returns-in-Ok-report_found-clause-reported
 returns-in-Ok-report_found-clause-reported g c by =
