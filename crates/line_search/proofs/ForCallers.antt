@@ -4,4 +4,4 @@ pub use Rattle.line_search.proofs.FeedPlaceLemmas.{feed_first, first_at, first_w
 -- bytes before the start of a line are whole lines
 pub use Rattle.line_search.proofs.LineCutLemmas.{before_start}
 -- the spans of a line, one after the other
-pub use Rattle.line_search.proofs.SpanLemmas.{spans_of_matches}
+pub use Rattle.pattern_fallback.proofs.ForCallers.{spans_of_matches}

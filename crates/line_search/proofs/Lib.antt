@@ -18,6 +18,5 @@ mod PartLemmas
 mod PlainLemmas
 mod RegexLemmas
 mod ReplaceLemmas
-pub mod SpanLemmas
 mod ToldLemmas
 mod WholePatternLemmas

@@ -1,10 +1,7 @@
 -- What a matcher reports about a line.
 use Rattle.std.specs.Prelude.{ℕ, Bool, List}
-use Rattle.search_types.specs.declared.span.Span.{Span}
+pub use Rattle.pattern_fallback.specs.Fallbacks.{span_pair}
 use Rattle.line_search.specs.Lines.{SplitLine}
-
-abbrev pub span_pair : Span → ℕ × ℕ
-span_pair s = (s.start, s.end)
 
 -- What is shown of a line: bytes, and the spans in them of its matches, or of what replaces these, from left to right.
 pub record ShownLine : Type 0 where

@@ -1,4 +1,5 @@
 //! Why an input isn't searched, or the output isn't written, to the end.
+use pattern_fallback::ProgramError;
 use std::alloc::AllocError;
 use std::io::ErrorKind;
 
@@ -25,5 +26,14 @@ impl From<AllocError> for Fault {
 
     fn from(_e: AllocError) -> Fault {
         Fault::NoMemory
+    }
+}
+
+impl From<ProgramError> for Fault {
+    fn from(e: ProgramError) -> Fault {
+        match e {
+            ProgramError::NoMemory => Fault::NoMemory,
+            ProgramError::TooLarge => Fault::TooLarge,
+        }
     }
 }

@@ -7,7 +7,6 @@ ghost use Rattle.line_search.specs.Searchers.{AreReplaced, IsMatchReported, AreR
 
 use crate::candidate_finder::CandidateFinder;
 use crate::candidates::Reached;
-use crate::fallback::ends_at;
 use crate::fault::Fault;
 use crate::line_patterns::LinePatterns;
 use crate::literal_lines::{LiteralLines, line_end};
@@ -17,6 +16,7 @@ use crate::sizes::Size;
 use crate::slow_search::SlowSearch;
 use crate::strings::strings_of;
 use hir_core::Hir;
+use pattern_fallback::ends_at;
 use search_types::{MatchError, MatchErrorKind, Span};
 use std::alloc::Global;
 use std::marker::Model;

@@ -1,21 +1,18 @@
 //! The groups of patterns: their names, and which pattern a match is of.
-ghost use Rattle.std.specs.Prelude.{◌≡◌, ◌∷◌, ◌++◌, ◌<◌, ◌≤◌, ◌*◌, [], ℕ, List, IfOk, IfSome, OnOk, is_some, length, map, slice_get, true};
+ghost use Rattle.std.specs.Prelude.{◌≡◌, ◌<◌, ◌≤◌, ◌*◌, ℕ, List, IfOk, IfSome, is_some, length, map, slice_get, true};
 ghost use Rattle.regex_hir.specs.Re.{Re, accept, attempt};
-ghost use Rattle.regex_meta.specs.Programs.{pattern_of};
-ghost use Rattle.regex_syntax.specs.Captures.{SameCaptures};
 ghost use Rattle.pattern_search.specs.Texts.{AreReadAs};
-ghost use Rattle.line_search.specs.Bounded.{bounded, line_pattern};
-ghost use Rattle.line_search.specs.Fallbacks.{AreProgramsOf};
+ghost use Rattle.line_search.specs.Bounded.{line_pattern};
 ghost use Rattle.templates.specs.Expansion.{names_in};
 ghost use Rattle.line_search.specs.Meant.{line_config};
 ghost use Rattle.line_search.specs.Replacing.{all_names, most_groups, pattern_at};
 
-use crate::fallback::program_of;
+use crate::fallback::programs_of;
 use crate::fault::Fault;
 use crate::patterns::{PatternOptions, config_of};
-use crate::searcher::see_bytes;
 use group_finder::GroupNames;
-use regex_meta::{Program, Searcher};
+use pattern_fallback::number_at;
+use regex_meta::Program;
 use std::alloc::Global;
 use std::marker::Model;
 
@@ -33,7 +30,7 @@ pub(crate) struct PatternGroups<'t> {
 }
 
 impl<'t> Model for PatternGroups<'t> {
-    ghost use Rattle.std.specs.Prelude.{◌≡◌, ◌<◌, ℕ, List, length, map};
+    ghost use Rattle.std.specs.Prelude.{◌≡◌, ℕ, List, map};
     ghost use Rattle.line_search.specs.Fallbacks.{AreProgramsOf};
     ghost use Rattle.line_search.specs.Replacing.{all_names};
     ghost use Rattle.line_search.specs.declared.patterns.PatternOptions.{PatternOptions};
@@ -43,7 +40,7 @@ impl<'t> Model for PatternGroups<'t> {
     ghost view = { λ g. (g.how, map (λ t. t.now) g.texts.now) };
 
     ghost invariant = { λ g. (g.names.items ≡ all_names g.how (map (λ t. t.now) g.texts.now))
-        × (1 < length (map (λ t. t.now) g.texts.now) → AreProgramsOf g.how (map (λ t. t.now) g.texts.now) g.each.items) };
+        × AreProgramsOf g.how (map (λ t. t.now) g.texts.now) g.each.items };
 }
 
 /// The names of the groups of a pattern.
@@ -74,58 +71,6 @@ fn all_names(alloc: Global, how: &PatternOptions, texts: &[&str]) -> Result<Vec<
     Ok(all)
 }
 
-/// A program of each pattern.
-fn programs_of(
-    alloc: Global,
-    how: &PatternOptions,
-    texts: &[&str],
-) -> Result<Vec<Box<Program>>, Fault>
-    ensures { IfOk result (λ v. AreProgramsOf how.now (map (λ t. t.now) texts.now) v.items) }
-{
-    let mut all = Vec::new(alloc);
-    for text in texts {
-        let program = match program_of(alloc, how, &[*text], GROUPS_SIZE_LIMIT) {
-            Ok(program) => program,
-            Err(e) => return Err(e),
-        };
-        match all.push(program) {
-            Ok(()) => {}
-            Err(_) => return Err(Fault::NoMemory),
-        }
-    }
-    Ok(all)
-}
-
-/// A program of each pattern, if there are several.
-fn programs_of_several(
-    alloc: Global,
-    how: &PatternOptions,
-    texts: &[&str],
-) -> Result<Vec<Box<Program>>, Fault>
-    ensures { IfOk result (λ v. 1 < length (map (λ t. t.now) texts.now) → AreProgramsOf how.now (map (λ t. t.now) texts.now) v.items) }
-{
-    if texts.len() <= 1 {
-        return Ok(Vec::new(alloc));
-    }
-    match programs_of(alloc, how, texts) {
-        Ok(all) => Ok(all),
-        Err(e) => Err(e),
-    }
-}
-
-/// Whether the program has a match at an offset of the line.
-fn starts_at(alloc: Global, program: &Program, line: &[u8], start: usize) -> Result<bool, Fault>
-    requires { start ≤ length line.now }
-    ensures { IfOk result (λ starts. (a : Re) → SameCaptures (pattern_of program.now) a → starts ≡ is_some (attempt line.now a accept start)) }
-{
-    see_bytes(line);
-    let mut searcher = Searcher::new(alloc, program)?;
-    match searcher.find(line, start) {
-        Some((first, _)) => Ok(first == start),
-        None => Ok(false),
-    }
-}
-
 impl<'t> PatternGroups<'t> {
     /// The groups of these patterns.
     pub(crate) fn new(
@@ -139,7 +84,7 @@ impl<'t> PatternGroups<'t> {
             Ok(names) => names,
             Err(e) => return Err(e),
         };
-        let each = match programs_of_several(alloc, how, texts) {
+        let each = match programs_of(alloc, how, texts, GROUPS_SIZE_LIMIT) {
             Ok(each) => each,
             Err(e) => return Err(e),
         };
@@ -168,17 +113,8 @@ impl<'t> PatternGroups<'t> {
         ensures { IfOk result (λ k. (res : List Re) → AreReadAs (line_config self.now.0) self.now.1 res →
             is_some (attempt line.now (line_pattern self.now.0 res) accept start) ≡ true → k ≡ pattern_at self.now.0 res line.now start) }
     {
-        if self.texts.len() <= 1 {
-            return Ok(0);
-        }
-        for number in 0..self.each.len() {
-            match starts_at(alloc, &self.each[number], line, start) {
-                Ok(true) => return Ok(number),
-                Ok(false) => {}
-                Err(e) => return Err(e),
-            }
-        }
-        Ok(self.each.len())
+        let number = number_at(alloc, &self.each, line, start)?;
+        Ok(number)
     }
 
     /// The names of the groups of the pattern with this number.

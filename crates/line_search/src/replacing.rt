@@ -2,7 +2,6 @@
 ghost use Rattle.std.specs.Prelude.{◌≡◌, ◌≤◌, ◌<◌, ◌==◌, ◌+◌, ◌-◌, ◌*◌, ◌^◌, ◌∷◌, ◌++◌, [], ℕ, All, List, Some, IfOk, IfSome, OnOk, length, map, option_map, slice_range};
 ghost use Rattle.regex_hir.specs.Re.{Re, accept, attempt};
 ghost use Rattle.regex_hir.specs.Find.{Match, find, find_after};
-ghost use Rattle.regex_hir.specs.Text.{is_some_and};
 ghost use Rattle.regex_meta.specs.Programs.{pattern_of};
 ghost use Rattle.regex_vm.specs.Found.{group_cells};
 ghost use Rattle.regex_syntax.specs.Captures.{SameCaptures};
@@ -21,6 +20,7 @@ use crate::fault::Fault;
 use crate::pattern_groups::PatternGroups;
 use crate::searcher::see_bytes;
 use group_finder::NO_OFFSET;
+use pattern_fallback::ends_at;
 use regex_meta::Searcher;
 use search_types::Span;
 use std::alloc::{AllocError, Global};
@@ -51,16 +51,6 @@ fn capture_from(
     match searcher.captures(line, start, cells) {
         Some((start, end)) => Some(Span { start, end }),
         None => None,
-    }
-}
-
-/// Whether there is a span, and it ends at this offset.
-fn ends_at(next: Option<Span>, end: usize) -> bool
-    ensures { result ≡ is_some_and (option_map span_pair next) (λ s. s.1 == end) }
-{
-    match next {
-        Some(span) => span.end == end,
-        None => false,
     }
 }
 

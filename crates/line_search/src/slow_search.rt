@@ -5,13 +5,11 @@ ghost use Rattle.line_search.specs.FoundSpans.{IsFoundSpan};
 ghost use Rattle.line_search.specs.LineMatchers.{span_pair};
 ghost use Rattle.line_search.specs.Searchers.{AreReplaced, IsMatchReported, AreReported};
 
-use crate::fallback::{
-    SIZE_LIMIT, all_matches, all_matches_anew, found_from, found_from_anew, has_one, has_one_anew,
-    program_of,
-};
+use crate::fallback::{SIZE_LIMIT, program_of};
 use crate::fault::Fault;
 use crate::line_patterns::LinePatterns;
 use crate::replacing::{Replaced, replace_all};
+use pattern_fallback::{all_matches, find_from, has_one};
 use regex_meta::{Program, Searcher};
 use search_types::Span;
 use std::alloc::Global;
@@ -65,10 +63,7 @@ impl<'t> SlowSearch<'t> {
         let Some(program) = self.patterns.program() else {
             return Ok(None);
         };
-        let searcher = match Searcher::new(alloc, program) {
-            Ok(searcher) => searcher,
-            Err(_) => return Err(Fault::NoMemory),
-        };
+        let searcher = Searcher::new(alloc, program)?;
         Ok(Some(searcher))
     }
 
@@ -79,28 +74,33 @@ impl<'t> SlowSearch<'t> {
         if self.kept.is_some() {
             return Ok(());
         }
-        let kept = match self.make_kept(alloc) {
-            Ok(kept) => kept,
-            Err(e) => return Err(e),
-        };
+        let kept = self.make_kept(alloc)?;
         self.kept = kept;
         Ok(())
     }
 
-    /// Takes the program out. It is compiled if there is none yet.
-    fn take_program(&mut self, alloc: Global) -> Result<Box<Program>, Fault>
-        ensures same { self.new ≡ self.old }
-        ensures program { IfOk result (λ p. IsProgramOf self.old.0 self.old.1 p.value) }
+    /// Compiles the program of patterns that have none, if that wasn't done yet.
+    fn compile(&mut self, alloc: Global) -> Result<(), Fault>
+        ensures { self.new ≡ self.old }
     {
-        if let Some(program) = self.program.take() {
-            return Ok(program);
+        if self.program.is_some() {
+            return Ok(());
         }
         let how = self.patterns.how();
-        let program = match program_of(alloc, &how, self.patterns.texts(), SIZE_LIMIT) {
-            Ok(program) => program,
-            Err(e) => return Err(e),
+        let program = program_of(alloc, &how, self.patterns.texts(), SIZE_LIMIT)?;
+        self.program = Some(program);
+        Ok(())
+    }
+
+    /// A searcher of the program that was compiled, for one line.
+    fn searcher(&self, alloc: Global) -> Result<Searcher<'_>, Fault>
+        ensures { IfOk result (λ it. IsProgramOf self.now.0 self.now.1 it.program.now) }
+    {
+        let Some(program) = &self.program else {
+            return Err(Fault::TooLarge);
         };
-        Ok(program)
+        let searcher = Searcher::new(alloc, program)?;
+        Ok(searcher)
     }
 
     /// Whether the line has a match, by the searcher that is kept, if there is one.
@@ -111,7 +111,7 @@ impl<'t> SlowSearch<'t> {
         let Some(searcher) = &mut self.kept else {
             return None;
         };
-        let has = has_one(searcher, line);
+        let has = has_one(searcher, line, false);
         Some(has)
     }
 
@@ -123,10 +123,7 @@ impl<'t> SlowSearch<'t> {
         let Some(searcher) = &mut self.kept else {
             return Ok(None);
         };
-        let found = match all_matches(alloc, searcher, line) {
-            Ok(found) => found,
-            Err(_) => return Err(Fault::NoMemory),
-        };
+        let found = all_matches(alloc, searcher, line)?;
         Ok(Some(found))
     }
 
@@ -153,59 +150,19 @@ impl<'t> SlowSearch<'t> {
         }
     }
 
-    /// Whether the line has a match, by a searcher that is made for it.
-    fn has_match_anew(&mut self, alloc: Global, line: &[u8]) -> Result<bool, Fault>
-        ensures same { self.new ≡ self.old }
-        ensures reported { IfOk result (IsMatchReported self.old.0 self.old.1 line.now) }
-    {
-        let program = match self.take_program(alloc) {
-            Ok(program) => program,
-            Err(e) => return Err(e),
-        };
-        let reported = has_one_anew(alloc, &program, line);
-        self.program = Some(program);
-        let has = match reported {
-            Ok(has) => has,
-            Err(_) => return Err(Fault::NoMemory),
-        };
-        Ok(has)
-    }
-
-    /// The matches of the line, by a searcher that is made for it.
-    fn matches_anew(&mut self, alloc: Global, line: &[u8]) -> Result<Vec<Span>, Fault>
-        ensures same { self.new ≡ self.old }
-        ensures reported { IfOk result (λ found. AreReported self.old.0 self.old.1 line.now (map span_pair found.items)) }
-    {
-        let program = match self.take_program(alloc) {
-            Ok(program) => program,
-            Err(e) => return Err(e),
-        };
-        let reported = all_matches_anew(alloc, &program, line);
-        self.program = Some(program);
-        let found = match reported {
-            Ok(found) => found,
-            Err(_) => return Err(Fault::NoMemory),
-        };
-        Ok(found)
-    }
-
     /// Whether the line has a match.
     pub(crate) fn has_match(&mut self, alloc: Global, line: &[u8]) -> Result<bool, Fault>
         ensures same { self.new ≡ self.old }
         ensures reported { IfOk result (IsMatchReported self.old.0 self.old.1 line.now) }
     {
         self.lines = self.lines.saturating_add(1);
-        match self.ready(alloc) {
-            Ok(()) => {}
-            Err(e) => return Err(e),
-        }
+        self.ready(alloc)?;
         if let Some(has) = self.has_match_kept(line) {
             return Ok(has);
         }
-        match self.has_match_anew(alloc, line) {
-            Ok(has) => Ok(has),
-            Err(e) => Err(e),
-        }
+        self.compile(alloc)?;
+        let mut searcher = self.searcher(alloc)?;
+        Ok(has_one(&mut searcher, line, false))
     }
 
     /// The matches of the line, from left to right.
@@ -213,19 +170,14 @@ impl<'t> SlowSearch<'t> {
         ensures same { self.new ≡ self.old }
         ensures reported { IfOk result (λ found. AreReported self.old.0 self.old.1 line.now (map span_pair found.items)) }
     {
-        match self.ready(alloc) {
-            Ok(()) => {}
-            Err(e) => return Err(e),
+        self.ready(alloc)?;
+        if let Some(found) = self.matches_kept(alloc, line)? {
+            return Ok(found);
         }
-        match self.matches_kept(alloc, line) {
-            Ok(Some(found)) => return Ok(found),
-            Ok(None) => {}
-            Err(e) => return Err(e),
-        }
-        match self.matches_anew(alloc, line) {
-            Ok(found) => Ok(found),
-            Err(e) => Err(e),
-        }
+        self.compile(alloc)?;
+        let mut searcher = self.searcher(alloc)?;
+        let spans = all_matches(alloc, &mut searcher, line)?;
+        Ok(spans)
     }
 
     /// The line with its matches replaced by what a template writes for them. It is an error if the patterns weren't taken with their groups.
@@ -239,14 +191,9 @@ impl<'t> SlowSearch<'t> {
         ensures reported { IfOk result (λ r.
             AreReplaced self.old.0 self.old.1 template.now line.now r.bytes.items (map span_pair r.spans.items)) }
     {
-        match self.ready(alloc) {
-            Ok(()) => {}
-            Err(e) => return Err(e),
-        }
-        match self.replaced_kept(alloc, line, template) {
-            Ok(replaced) => Ok(replaced),
-            Err(e) => Err(e),
-        }
+        self.ready(alloc)?;
+        let replaced = self.replaced_kept(alloc, line, template)?;
+        Ok(replaced)
     }
 
     /// The span of the match from an offset of the line on, by the searcher that is kept, if there is one.
@@ -258,27 +205,8 @@ impl<'t> SlowSearch<'t> {
         let Some(searcher) = &mut self.kept else {
             return None;
         };
-        let found = found_from(searcher, line, start);
+        let found = find_from(searcher, line, start, false);
         Some(found)
-    }
-
-    /// The span of the match from an offset of the line on, by a searcher that is made for it.
-    fn find_anew(&mut self, alloc: Global, line: &[u8], start: usize) -> Result<Option<Span>, Fault>
-        requires { start ≤ length line.now }
-        ensures same { self.new ≡ self.old }
-        ensures reported { IfOk result (λ found. IsFoundSpan self.old.0 self.old.1 line.now start (option_map span_pair found)) }
-    {
-        let program = match self.take_program(alloc) {
-            Ok(program) => program,
-            Err(e) => return Err(e),
-        };
-        let reported = found_from_anew(alloc, &program, line, start);
-        self.program = Some(program);
-        let found = match reported {
-            Ok(found) => found,
-            Err(_) => return Err(Fault::NoMemory),
-        };
-        Ok(found)
     }
 
     /// The span of the leftmost match that starts at an offset of the line or after it.
@@ -292,16 +220,12 @@ impl<'t> SlowSearch<'t> {
         ensures same { self.new ≡ self.old }
         ensures reported { IfOk result (λ found. IsFoundSpan self.old.0 self.old.1 line.now start (option_map span_pair found)) }
     {
-        match self.ready(alloc) {
-            Ok(()) => {}
-            Err(e) => return Err(e),
-        }
+        self.ready(alloc)?;
         if let Some(found) = self.find_kept(line, start) {
             return Ok(found);
         }
-        match self.find_anew(alloc, line, start) {
-            Ok(found) => Ok(found),
-            Err(e) => Err(e),
-        }
+        self.compile(alloc)?;
+        let mut searcher = self.searcher(alloc)?;
+        Ok(find_from(&mut searcher, line, start, false))
     }
 }

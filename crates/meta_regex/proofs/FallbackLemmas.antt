@@ -1,147 +1,123 @@
--- What the toolchain's regexes find is what the parsed patterns have.
-use Rattle.std.proofs.Common.{◌≡◌, ℕ, zero, suc, ◌+◌, ◌<◌, ◌≤◌, Bool, true, false, List, [], ◌∷◌, ◌++◌, All, length, map, take}
-use Rattle.std.proofs.Common.{slice_index_or, Option, Some, None}
-use Rattle.std.proofs.Common.{option_map, refl, sym, ap, ap₂, ◌∙◌, subst, arith, IsSomeAnd, chars, get_or, is_some, String, string_bytes}
-use Rattle.std.specs.Prelude.{IfSome}
-use Rattle.std.proofs.lemmas.List.Elements.{All-head, All-tail}
+-- What the toolchain's programs find is what the parsed patterns have.
+use Rattle.std.proofs.Common.{◌≡◌, ℕ, zero, suc, ◌+◌, ◌<◌, Bool, true, false, ◌&&◌, List, [], ◌∷◌, ◌++◌, length, map, drop}
+use Rattle.std.proofs.Common.{slice_index_or, slice_get, Option, Some, None, option_map, refl, sym, ap, ap₂, ◌∙◌, subst, arith, append_assoc}
+use Rattle.std.specs.Prelude.{is_some}
 use Rattle.std.proofs.lemmas.Option.{none-some, same_Some}
-use Rattle.std.specs.declared.alloc.Global.{Global}
-use Rattle.regex_hir.specs.Re.{Re}
-use Rattle.regex_hir.specs.Meaning.{alt_all, meaning}
+use Rattle.regex.specs.Search.{leftmost_in}
+use Rattle.regex.proofs.SearchLemmas.{leftmost_attempt}
 use Rattle.regex_hir.specs.Find.{Match}
+use Rattle.regex_hir.specs.Meaning.{alt_all, meaning}
+use Rattle.regex_hir.specs.Re.{Re, accept, attempt}
 use Rattle.regex_hir.specs.declared.hir.Hir.{Hir}
-use Rattle.regex_syntax.specs.Captures.{SameCaptures}
+use Rattle.regex_meta.proofs.ProgramLemmas.{value_of_option_map}
 use Rattle.regex_syntax.specs.declared.Config.{Config}
-use Rattle.regex_syntax.specs.Grammar.{Names, read}
-use Rattle.regex_syntax.specs.Verdict.{Reads}
-use Rattle.regex.specs.Bytes as raw
-use Rattle.regex.specs.Strings as text
-use Rattle.regex.specs.Names.{names_of}
-use Rattle.regex.specs.declared.bytes.regex.Regex as raw_regex
-use Rattle.regex.specs.declared.string.regex.Regex as text_regex
-use Rattle.regex.proofs.ForCallers.{span_alike}
-use Rattle.pattern_search.specs.Searches.{found_from, which_match, span_of_match, IsOfFirstPattern}
+use Rattle.regex_vm.specs.Found.{span}
+use Rattle.pattern_fallback.specs.Fallbacks.{AreAlike, AreParsedOf, found_in, first_at}
+use Rattle.pattern_fallback.proofs.ForCallers.{IsFirstMatch, found_of_first}
+use Rattle.pattern_search.specs.Searches.{found_from, which_match}
 use Rattle.pattern_search.specs.Texts.{AreReadAs}
-use Rattle.pattern_search.proofs.ForCallers.{one_same}
 use Rattle.meta_regex.specs.declared.found_match.FoundMatch.{FoundMatch}
-use Rattle.meta_regex.specs.declared.fallback.Fallback.{Fallback}
-use Rattle.meta_regex.specs.declared.fallback.Fallback.TheVariants.{Bytes, Text}
-use Rattle.meta_regex.specs.Regexes.{HasFoundStart, HasFoundSpan, AreWhich, span_of_row, as_found}
-use Rattle.meta_regex.specs.Fallbacks.{IsFallbackOf, AreFallbacksOf, span_by, finds_any, best_of}
-use Rattle.meta_regex.proofs.BestLemmas.{span_at, best_is_found, best_of_first}
+use Rattle.meta_regex.specs.Fallbacks.{IsFoundFor, finds_any}
+use Rattle.meta_regex.specs.Regexes.{AreWhich, HasFoundSpan, HasFoundStart, span_of_row}
+use Rattle.meta_regex.specs.Wordless.{MayMatch, both_true}
+use Rattle.meta_regex.proofs.FoundLemmas.{read_as_many}
 
--- the pattern is parsed as this
-abbrev IsReadOne : Config → List ℕ → Re → Type 0
-IsReadOne config t a = IsSomeAnd (read config (chars t)) (λ (re, names). (re.depth ≤ config.nest_limit) × (re.value ≡ a))
+-- ---- parsed patterns
+-- their trees have the same captures
+pub parsed_alike : (config : Config) (ts : List (List ℕ)) (xs : List Hir) (res : List Re) → AreParsedOf config ts xs →
+    AreReadAs config ts res → AreAlike (map meaning xs) res
+parsed_alike config [] [] [] p q = tt
+parsed_alike config [] [] (a ∷ res) p q = absurd q
+parsed_alike config [] (x ∷ xs) res p q = absurd p
+parsed_alike config (t ∷ ts) [] res p q = absurd p
+parsed_alike config (t ∷ ts) (x ∷ xs) [] p q = absurd q
+parsed_alike config (t ∷ ts) (x ∷ xs) (a ∷ res) p q = (p.0 a q.0, parsed_alike config ts xs res p.1 q.1)
 
-reads_same : (config : Config) (t : List ℕ) (hir : Hir) (names : Names) (a : Re) → Reads config t hir names → IsReadOne config t a →
-    SameCaptures (meaning hir) a
-unfolding Reads
-reads_same config t hir names a p q = one_same config hir names a (read config (chars t)) p q
+-- ---- one match
+pub none_found : (utf8 : Bool) (res : List Re) (h : List ℕ) (at : ℕ) → None ≡ found_in utf8 (alt_all res) h at → IsFoundFor utf8 res h at None
+none_found utf8 res h at is = record { span_is = sym is; pattern = tt }
 
-raw_same : (config : Config) (t : List ℕ) (r : raw_regex.Regex) (a : Re) → raw.regex_source r ≡ t → raw.regex_config r ≡ config →
-    raw.IsReadFromSource r →
-    IsReadOne config t a → SameCaptures (raw.regex_pattern r) a
-raw_same config t r a source options reads q =
-    reads_same config t r.pattern.program.hir (names_of r.pattern.names.items) a
-    (subst (λ (c : Config). Reads c t r.pattern.program.hir (names_of r.pattern.names.items)) options
-    (subst (λ (s : List ℕ). Reads r.pattern.config s r.pattern.program.hir (names_of r.pattern.names.items)) source reads)) q
-
-text_same : (config : Config) (t : List ℕ) (r : text_regex.Regex) (a : Re) → text.regex_source r ≡ t → text.regex_config r ≡ config →
-    text.IsReadFromSource r →
-    IsReadOne config t a → SameCaptures (text.regex_pattern r) a
-text_same config t r a source options reads q =
-    reads_same config t r.pattern.program.hir (names_of r.pattern.names.items) a
-    (subst (λ (c : Config). Reads c t r.pattern.program.hir (names_of r.pattern.names.items)) options
-    (subst (λ (s : List ℕ). Reads r.pattern.config s r.pattern.program.hir (names_of r.pattern.names.items)) source reads)) q
-
-bytes_at : (h : List ℕ) → All (λ b. b < 256) h → (k : ℕ) → get_or h k 0 < 256
-bytes_at [] all k = omega arith
-bytes_at (b ∷ h) all zero = All-head (λ x. x < 256) b h all
-bytes_at (b ∷ h) all (suc k) = bytes_at h (All-tail (λ x. x < 256) b h all) k
-
--- each regex finds what its pattern has
-module _ (h : List ℕ) (bytes : All (λ b. b < 256) h) (config : Config) where
-  one_span : (t : List ℕ) (r : Fallback) (a : Re) (at : ℕ) → IsFallbackOf config t r → IsReadOne config t a →
-      span_by h at r ≡ span_at config.utf8 h at a
-  one_span t (Bytes r) a at of q =
-      span_alike (raw_same config t r a of.1 of.2 of.3 q) h (bytes_at h bytes) false at
-      ∙ ap (λ (u : Bool). span_at u h at a) (sym of.0)
-  one_span t (Text r) a at of q =
-      span_alike (text_same config t r a of.1 of.2 of.3 q) h (bytes_at h bytes) true at
-      ∙ ap (λ (u : Bool). span_at u h at a) (sym of.0)
-
-  all_spans : (ts : List (List ℕ)) (rs : List Fallback) (res : List Re) (at : ℕ) → AreFallbacksOf config ts rs → AreReadAs config ts res →
-      map (span_by h at) rs ≡ map (span_at config.utf8 h at) res
-  all_spans [] [] [] at of q = refl
-  all_spans [] [] (a ∷ res) at of q = absurd q
-  all_spans [] (r ∷ rs) res at of q = absurd of
-  all_spans (t ∷ ts) [] res at of q = absurd of
-  all_spans (t ∷ ts) (r ∷ rs) [] at of q = absurd q
-  all_spans (t ∷ ts) (r ∷ rs) (a ∷ res) at of q =
-      ap₂ (λ (x : Option (ℕ × ℕ)) (xs : List (Option (ℕ × ℕ))). x ∷ xs) (one_span t r a at of.0 q.0) (all_spans ts rs res at of.1 q.1)
-
-  some_span : (o : Option Match) → is_some o ≡ is_some (option_map span_of_match o)
-  some_span None = refl
-  some_span (Some m) = refl
-
-  each_any : (rs : List Fallback) → map (finds_any h) rs ≡ map is_some (map (span_by h 0) rs)
-  each_any [] = refl
-  each_any (Bytes r ∷ rs) = ap₂ (λ (b : Bool) (bs : List Bool). b ∷ bs) (some_span _) (each_any rs)
-  each_any (Text r ∷ rs) = ap₂ (λ (b : Bool) (bs : List Bool). b ∷ bs) (some_span _) (each_any rs)
-
-  each_which : (res : List Re) → map is_some (map (span_at config.utf8 h 0) res) ≡ which_match config.utf8 res h
-  each_which [] = refl
-  each_which (a ∷ res) = ap₂ (λ (b : Bool) (bs : List Bool). b ∷ bs) (sym (some_span (found_from config.utf8 a h 0))) (each_which res)
-
-  pub which_slowly : (ts : List (List ℕ)) (rs : List Fallback) (reported : List Bool) → AreFallbacksOf config ts rs →
-      reported ≡ map (finds_any h) rs →
-      AreWhich config ts h reported
-  which_slowly ts rs reported of is res read = is ∙ each_any rs ∙ ap (map is_some) (all_spans ts rs res 0 of read) ∙ each_which res
-
-  module _ (ts : List (List ℕ)) (rs : List Fallback) (at : ℕ) (of : AreFallbacksOf config ts rs) (o : Option FoundMatch)
-      (is : o ≡ best_of 0 (map (span_by h at) rs)) where
-    best : (res : List Re) → AreReadAs config ts res → o ≡ best_of 0 (map (span_at config.utf8 h at) res)
-    best res read = is ∙ ap (best_of 0) (all_spans ts rs res at of read)
-
-    pub preferred_slowly : HasFoundSpan config ts h at o
-    preferred_slowly res read = best_is_found config.utf8 h at res ∙ ap (option_map span_of_row) (sym (best res read))
-
-    starts_by : (a : Option Match) (b : Option FoundMatch) → option_map span_of_match a ≡ option_map span_of_row b →
-        option_map (λ m. m.start) a ≡ option_map (λ r. FoundMatch.start r) b
-    starts_by None None e = refl
-    starts_by None (Some b) e = absurd (none-some (span_of_row b) e)
-    starts_by (Some a) None e = absurd (none-some (span_of_match a) (sym e))
-    starts_by (Some a) (Some b) e = ap (λ (s : ℕ × ℕ). Some s.0) (same_Some (span_of_match a) (span_of_row b) e)
-
-    first_by : (res : List Re) (p : Option FoundMatch) → ((f : FoundMatch) → p ≡ Some f → IsOfFirstPattern res h (as_found f)) →
-        IfSome p (λ f. IsOfFirstPattern res h (as_found f))
-    first_by res None each = tt
-    first_by res (Some f) each = each f refl
-
-    pub found_slowly : HasFoundStart config ts h at o
-    found_slowly = record {
-      start = λ res read. starts_by (found_from config.utf8 (alt_all res) h at) o (preferred_slowly res read);
-      pattern = λ res read. first_by res o (λ f e. best_of_first config.utf8 h at res f (sym (best res read) ∙ e));
+pub one_found : (utf8 : Bool) (res : List Re) (h : List ℕ) (at : ℕ) (f : FoundMatch) →
+    Some (span_of_row f) ≡ found_in utf8 (alt_all res) h at →
+    (is_some (attempt h (alt_all res) accept f.start) ≡ true → f.pattern ≡ first_at res h f.start) → IsFoundFor utf8 res h at (Some f)
+one_found utf8 res h at f is number =
+    let v = value_of_option_map span (leftmost_in utf8 (alt_all res) h at) (span_of_row f) (sym is) in
+    let starts : v.0.start ≡ f.start = ap (λ (s : ℕ × ℕ). s.0) v.2 in
+    let ends : v.0.trace.end ≡ f.end = ap (λ (s : ℕ × ℕ). s.1) v.2 in
+    let there = (leftmost_attempt (alt_all res) h utf8 at v.0 v.1).2 in
+    let told : f.pattern ≡ first_at res h v.0.start =
+    number (ap (λ i. is_some (attempt h (alt_all res) accept i)) (sym starts) ∙ ap is_some there) ∙ ap (first_at res h) (sym starts) in
+    let first : IsFirstMatch res h f.pattern f.start f.end =
+    subst (λ n. IsFirstMatch res h n f.start f.end) (sym told)
+    (subst (λ i. IsFirstMatch res h (first_at res h v.0.start) i f.end) starts
+    (subst (λ j. IsFirstMatch res h (first_at res h v.0.start) v.0.start j) ends (found_of_first utf8 res h at v.0 v.1))) in
+    record {
+      span_is = sym is;
+      pattern = record {
+        matches = record { pattern = first.pattern; listed = first.listed; matches = first.matches };
+        none_before = λ p j below m. first.none_before p m.pattern j below m.listed m.matches;
+      };
     }
 
--- ---- patterns whose regexes are made one by one
-next_fallback : (config : Config) (ts : List (String Global)) (d : String Global) (n : ℕ) (rs : List Fallback) (r : Fallback) →
-    n < length ts →
-    AreFallbacksOf config (take n (map string_bytes ts)) rs → IsFallbackOf config (string_bytes (slice_index_or ts n d)) r →
-    AreFallbacksOf config (take (suc n) (map string_bytes ts)) (rs ++ r ∷ [])
-next_fallback config [] d n rs r below p q = absurd (omega arith)
-next_fallback config (t ∷ ts) d zero [] r below p q = (q, tt)
-next_fallback config (t ∷ ts) d zero (x ∷ rs) r below p q = absurd p
-next_fallback config (t ∷ ts) d (suc n) [] r below p q = absurd p
-next_fallback config (t ∷ ts) d (suc n) (x ∷ rs) r below p q = (p.0, next_fallback config ts d n rs r (omega (arith, below)) p.1 q)
+same_search : (utf8 : Bool) (a : Re) (h : List ℕ) (at : ℕ) → found_from utf8 a h at ≡ leftmost_in utf8 a h at
+same_search true a h at = refl
+same_search false a h at = refl
 
-pub one_more_fallback : (config : Config) (ts : List (String Global)) (d : String Global) (n : ℕ) (old new : List Fallback)
-    (r : Fallback) → n < length ts →
-    new ≡ old ++ r ∷ [] → AreFallbacksOf config (take n (map string_bytes ts)) old →
-    IsFallbackOf config (string_bytes (slice_index_or ts n d)) r →
-    AreFallbacksOf config (take (n + 1) (map string_bytes ts)) new
-one_more_fallback config ts d n old new r below is p q =
-    let next : suc n ≡ n + 1 = omega arith in
-    subst (λ k. AreFallbacksOf config (take k (map string_bytes ts)) new) next
-    (subst (AreFallbacksOf config (take (suc n) (map string_bytes ts))) (sym is) (next_fallback config ts d n old r below p q))
+starts_by : (a : Option Match) (b : Option FoundMatch) → option_map span a ≡ option_map span_of_row b →
+    option_map (λ m. m.start) a ≡ option_map (λ r. FoundMatch.start r) b
+starts_by None None e = refl
+starts_by None (Some b) e = absurd (none-some (span_of_row b) e)
+starts_by (Some a) None e = absurd (none-some (span a) (sym e))
+starts_by (Some a) (Some b) e = ap (λ (s : ℕ × ℕ). Some s.0) (same_Some (span a) (span_of_row b) e)
+
+module _ (config : Config) (ts : List (List ℕ)) (h : List ℕ) (at : ℕ) (o : Option FoundMatch)
+    (each : (res : List Re) → AreReadAs config ts res → IsFoundFor config.utf8 res h at o) where
+  pub preferred_slowly : HasFoundSpan config ts h at o
+  preferred_slowly res read = ap (option_map span) (same_search config.utf8 (alt_all res) h at) ∙ (each res read).span_is
+
+  pub found_slowly : HasFoundStart config ts h at o
+  found_slowly = record {
+    start = λ res read. starts_by (found_from config.utf8 (alt_all res) h at) o (preferred_slowly res read);
+    pattern = λ res read. (each res read).pattern;
+  }
+
+-- ---- which patterns match
+all_searched : (utf8 : Bool) (h : List ℕ) (res : List Re) → map (finds_any utf8 h) res ≡ which_match utf8 res h
+all_searched utf8 h [] = refl
+all_searched utf8 h (a ∷ res) =
+    ap₂ (λ (b : Bool) (bs : List Bool). b ∷ bs) (ap is_some (sym (same_search utf8 a h 0))) (all_searched utf8 h res)
+
+-- those that match of the ones that may are all that match
+pub which_of_may : (h : List ℕ) (config : Config) (ts : List (List ℕ)) (may tests : List Bool) → MayMatch config ts h may →
+    length may ≡ length ts → ((res : List Re) → AreReadAs config ts res → length may ≡ length res →
+    tests ≡ both_true may (map (finds_any config.utf8 h) res)) → AreWhich config ts h tests
+which_of_may h config ts may tests allowed long each res read =
+    each res read (long ∙ sym (read_as_many config ts res read)) ∙ ap (both_true may) (all_searched config.utf8 h res) ∙ allowed res read
+
+-- ---- tests one after the other
+-- what is tested so far, followed by the tests that are left, are all of them
+abbrev pub IsTestedSoFar : Bool → List ℕ → List Re → List Bool → ℕ → List Bool → Type 0
+IsTestedSoFar utf8 h res may n tests =
+    tests ++ both_true (drop n may) (map (finds_any utf8 h) (drop n res)) ≡ both_true may (map (finds_any utf8 h) res)
+
+one_test : (f : Re → Bool) (may : List Bool) (res : List Re) (n : ℕ) (d has : Bool) → n < length may → length may ≡ length res →
+    ((a : Re) → slice_get res n ≡ Some a → has ≡ (slice_index_or may n d && f a)) →
+    both_true (drop n may) (map f (drop n res)) ≡ has ∷ both_true (drop (suc n) may) (map f (drop (suc n) res))
+one_test f [] res n d has below long told = absurd (omega (arith, below))
+one_test f (b ∷ may) [] n d has below long told = absurd (omega (arith, long))
+one_test f (b ∷ may) (a ∷ res) zero d has below long told =
+    ap (λ (t : Bool). t ∷ both_true may (map f res)) (sym (told a refl))
+one_test f (b ∷ may) (a ∷ res) (suc n) d has below long told = one_test f may res n d has (omega (arith, below)) (omega (arith, long)) told
+
+pub one_more_test : (utf8 : Bool) (h : List ℕ) (res : List Re) (may : List Bool) (n : ℕ) (d has : Bool) (old new : List Bool) →
+    n < length may → length may ≡ length res → new ≡ old ++ has ∷ [] →
+    ((a : Re) → slice_get res n ≡ Some a → has ≡ (slice_index_or may n d && finds_any utf8 h a)) →
+    IsTestedSoFar utf8 h res may n old → IsTestedSoFar utf8 h res may (n + 1) new
+one_more_test utf8 h res may n d has old new below long pushed told so_far =
+    let step : suc n ≡ n + 1 = omega arith in
+    let rest = both_true (drop (suc n) may) (map (finds_any utf8 h) (drop (suc n) res)) in
+    subst (λ k. IsTestedSoFar utf8 h res may k new) step
+    (ap (λ (l : List Bool). l ++ rest) pushed
+    ∙ append_assoc old (has ∷ []) rest
+    ∙ ap (λ (l : List Bool). old ++ l) (sym (one_test (finds_any utf8 h) may res n d has below long told))
+    ∙ so_far)

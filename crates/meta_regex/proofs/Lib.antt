@@ -1,5 +1,4 @@
 mod AnchoredLemmas
-mod BestLemmas
 mod FallbackLemmas
 mod FoundLemmas
 mod FirstByteLemmas
@@ -8,7 +7,6 @@ pub mod ListLemmas
 mod LoopLemmas
 pub mod NextLemmas
 mod OrderLemmas
-mod RefusalLemmas
 mod RunLemmas
 mod PartLemmas
 mod SplittingLemmas

@@ -1,8 +1,7 @@
 -- Lists that are laid over others, one by one.
-use Rattle.std.proofs.Common.{◌≡◌, ℕ, zero, suc, ◌+◌, ◌<◌, ◌≤◌, List, [], ◌∷◌, ◌++◌, All, length, map, take, slice_get, slice_set}
-use Rattle.std.proofs.Common.{slice_index_or, Some, refl, sym, ap, ◌∙◌, arith, length-append, length-take-le, take-suc, take_all}
+use Rattle.std.proofs.Common.{◌≡◌, ℕ, zero, suc, ◌+◌, ◌<◌, ◌≤◌, List, [], ◌∷◌, ◌++◌, All, length, map, take, slice_set}
+use Rattle.std.proofs.Common.{slice_index_or, refl, sym, ap, ◌∙◌, arith, length-append, length-take-le, take-suc, take_all}
 use Rattle.std.proofs.lemmas.List.Elements.{All-nil, All-cons, All-head, All-tail}
-use Rattle.std.proofs.lemmas.Option.{none-some, same_Some}
 use Rattle.meta_regex.specs.declared.found_match.FoundMatch.{FoundMatch}
 use Rattle.meta_regex.specs.Regexes.{overlaid}
 
@@ -40,18 +39,6 @@ pub mapped_at : {A B : Type 0} (f : A → B) (xs : List A) (n : ℕ) (d : A) (e 
 mapped_at f [] n d e below = absurd (omega arith)
 mapped_at f (x ∷ xs) zero d e below = refl
 mapped_at f (x ∷ xs) (suc n) d e below = mapped_at f xs n d e (omega (arith, below))
-
--- what is at an index of a list that is made of another
-pub mapped_get : {A B : Type 0} (f : A → B) (xs : List A) (n : ℕ) (y : B) → slice_get (map f xs) n ≡ Some y →
-    (x : A) × (slice_get xs n ≡ Some x) × (f x ≡ y)
-mapped_get f [] n y is = absurd (none-some y is)
-mapped_get f (x ∷ xs) zero y is = (x, refl, same_Some (f x) y is)
-mapped_get f (x ∷ xs) (suc n) y is = mapped_get f xs n y is
-
-pub get_mapped : {A B : Type 0} (f : A → B) (xs : List A) (n : ℕ) (x : A) → slice_get xs n ≡ Some x → slice_get (map f xs) n ≡ Some (f x)
-get_mapped f [] n x is = absurd (none-some x is)
-get_mapped f (y ∷ xs) zero x is = ap (λ z. Some (f z)) (same_Some y x is)
-get_mapped f (y ∷ xs) (suc n) x is = get_mapped f xs n x is
 
 -- one more match was taken, and lies in its row
 pub one_more_row : (fs : List FoundMatch) (f : FoundMatch) (n : ℕ) (old rows now : List FoundMatch) → n ≡ length fs →

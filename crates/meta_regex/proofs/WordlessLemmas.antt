@@ -34,11 +34,7 @@ use Rattle.pattern_search.specs.Searches.{found_from, whole_query, whole_search,
 use Rattle.pattern_search.specs.Texts.{AllMean}
 use Rattle.pattern_search.specs.Written.{FindsWhatIsWritten}
 use Rattle.pattern_search.proofs.ForCallers.{finds_what_is_written, same_patterns, tried, found_is, may_begin}
-use Rattle.meta_regex.specs.declared.fallback.Fallback.{Fallback}
-use Rattle.meta_regex.specs.Fallbacks.{AreFallbacksOf, finds_any}
-use Rattle.meta_regex.specs.Regexes.{AreWhich}
 use Rattle.meta_regex.specs.Wordless.{MayBeginAt, MayMatch, both_true}
-use Rattle.meta_regex.proofs.FallbackLemmas.{which_slowly}
 use Rattle.meta_regex.proofs.FoundLemmas.{read_as_many}
 
 -- the alternation matches what one of the patterns does
@@ -219,15 +215,3 @@ all_may config texts h may is res read =
     length-map res (λ re. is_some (found_from config.utf8 re h 0)) ∙ read_as_many config texts res read in
     ap (λ (bs : List Bool). both_true bs (which_match config.utf8 res h)) (is ∙ ap (λ (n : ℕ). replicate n true) (sym many))
     ∙ all_both (which_match config.utf8 res h)
-
-pub fallbacks_many : (config : Config) (ts : List (List ℕ)) (rs : List Fallback) → AreFallbacksOf config ts rs → length rs ≡ length ts
-fallbacks_many config [] [] of = refl
-fallbacks_many config [] (r ∷ rs) of = absurd of
-fallbacks_many config (t ∷ ts) [] of = absurd of
-fallbacks_many config (t ∷ ts) (r ∷ rs) of = ap suc (fallbacks_many config ts rs of.1)
-
--- those that match of the ones that may are all that match
-pub which_of_may : (h : List ℕ) → All (λ b. b < 256) h → (config : Config) (ts : List (List ℕ)) (rs : List Fallback) (may tests : List Bool) →
-    AreFallbacksOf config ts rs → MayMatch config ts h may → tests ≡ both_true may (map (finds_any h) rs) → AreWhich config ts h tests
-which_of_may h bytes config ts rs may tests of allowed is res read =
-    is ∙ ap (both_true may) (which_slowly h bytes config ts rs (map (finds_any h) rs) of refl res read) ∙ allowed res read

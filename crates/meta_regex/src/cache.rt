@@ -10,7 +10,7 @@ ghost use Rattle.meta_regex.specs.Wordless.{AreWordlessOf};
 use crate::building::build_pair;
 use crate::compiled::Regex;
 use crate::errors::SearchError;
-use crate::fallback::{Fallback, fallbacks_of};
+use crate::fallback::{Fallbacks, fallbacks_of};
 use crate::overlapping::OverlappingSearcher;
 use crate::texts::borrowed;
 use crate::wordless::{WordlessSearcher, wordless_pair};
@@ -21,12 +21,12 @@ use std::alloc::{AllocError, Global};
 /// The caches of a regex's automata, and what its searches made later. It is usable only with the regex for which it was made.
 ///
 /// Other parts are made once a search needs them: the automaton that reports which patterns match, the automata without looks at words,
-/// and the toolchain's regexes.
+/// and the toolchain's programs.
 #[derive(Drop)]
 pub struct Cache {
     pub(crate) pair: regex_pair::regex::Cache,
     pub(crate) overlapping: Option<OverlappingSearcher>,
-    pub(crate) fallbacks: Option<Vec<Fallback>>,
+    pub(crate) fallbacks: Option<Fallbacks>,
     pub(crate) wordless: Option<WordlessSearcher>,
     pub(crate) wordless_overlapping: Option<OverlappingSearcher>,
     /// Whether searches for literals pay.
@@ -175,15 +175,15 @@ impl Regex {
         }
     }
 
-    /// Takes the toolchain's regexes out of the cache. They are made if there are none yet.
+    /// Takes the toolchain's programs out of the cache. They are made if there are none yet.
     pub(crate) fn take_fallbacks(
         &self,
         alloc: Global,
         cache: &mut Cache,
-    ) -> Result<Vec<Fallback>, SearchError>
+    ) -> Result<Fallbacks, SearchError>
         requires own { IsCacheOf self.now cache.old }
         ensures own { IsCacheOf self.now cache.new }
-        ensures made { IfOk result (λ rs. AreFallbacksOf (config_by self.now) self.now.texts rs.items) }
+        ensures made { IfOk result (AreFallbacksOf (config_by self.now) self.now.texts) }
         ensures refused { IfErr result (λ e. (config : TextConfig) → (h : List ℕ) → IsSearchError config h e) }
     {
         if let Some(fallbacks) = cache.fallbacks.take() {

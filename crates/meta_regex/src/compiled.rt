@@ -28,7 +28,7 @@ const CANDIDATE_PARTS: usize = 24;
 /// A regex made from patterns. Nothing in it changes, so several callers may search by it, each with a [`Cache`](crate::Cache) of its own.
 ///
 /// Automata search the haystacks. In some haystacks they give up at a byte, for example if `\b` is tried next to a byte that isn't ASCII.
-/// Such haystacks are searched by the toolchain's regexes of the same patterns, which a cache makes when the first one comes.
+/// Such haystacks are searched by programs of the toolchain for the same patterns, which a cache makes when the first one comes.
 #[derive(Drop)]
 pub struct Regex {
     pair: regex_pair::regex::Regex,

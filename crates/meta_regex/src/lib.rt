@@ -2,7 +2,7 @@
 //!
 //! A [`Regex`] is made once from patterns and [`Options`] and never changes. Searches need a [`Cache`] that was made for it. They return what
 //! the patterns match by the toolchain's grammar and matcher, as `specs/Regexes.antt` defines it. No search gives up: where the automata do,
-//! the toolchain's regexes of the same patterns answer.
+//! programs of the toolchain for the same patterns answer.
 #![tactic(auto)]
 
 mod anchored;

@@ -11,7 +11,6 @@ use crate::compiled::Regex;
 use crate::errors::SearchError;
 use crate::fallback::have_each;
 use crate::overlapping::tests_of;
-use crate::searching::see_bytes;
 use search_core::PatternID;
 use search_types::PatternSet;
 use std::alloc::{AllocError, Global};
@@ -160,7 +159,7 @@ impl Regex {
         }
     }
 
-    /// For each pattern, whether it matches, by the toolchain's regexes of those that may match.
+    /// For each pattern, whether it matches, by the toolchain's programs of those that may match.
     fn matching_by_fallbacks(
         &self,
         alloc: Global,
@@ -172,7 +171,6 @@ impl Regex {
         ensures reported { IfOk result (λ reported. AreWhich (config_by self.now) self.now.texts haystack.now reported.items) }
         ensures refused { IfErr result (IsSearchError (config_by self.now) haystack.now) }
     {
-        see_bytes(haystack);
         let may = match self.may_match(alloc, cache, haystack) {
             Ok(may) => may,
             Err(e) => return Err(e),
@@ -181,13 +179,13 @@ impl Regex {
             Ok(fallbacks) => fallbacks,
             Err(e) => return Err(e),
         };
-        let reported = have_each(alloc, &fallbacks, haystack, &may);
+        let utf8 = self.options().syntax.options().utf8;
+        let reported = have_each(alloc, &fallbacks, haystack, &may, utf8);
         cache.fallbacks = Some(fallbacks);
-        let tests = match reported {
-            Ok(tests) => tests,
-            Err(e) => return Err(e),
-        };
-        Ok(tests)
+        match reported {
+            Ok(tests) => Ok(tests),
+            Err(_) => Err(SearchError::NoMemory),
+        }
     }
 
     /// For each pattern, whether it matches.

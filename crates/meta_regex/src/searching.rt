@@ -13,7 +13,7 @@ use crate::anchored::{Sought, Step, step_of};
 use crate::cache::Cache;
 use crate::compiled::Regex;
 use crate::errors::SearchError;
-use crate::fallback::find_best;
+use crate::fallback::find_match;
 use crate::found_match::FoundMatch;
 use crate::runs::NextRun;
 use hirscan::find;
@@ -125,7 +125,7 @@ impl Regex {
         Ok(row(found))
     }
 
-    /// A search by the toolchain's regexes.
+    /// A search by the toolchain's programs.
     fn find_by_fallbacks(
         &self,
         alloc: Global,
@@ -133,24 +133,24 @@ impl Regex {
         haystack: &[u8],
         from: usize,
     ) -> Result<Option<FoundMatch>, SearchError>
-        requires { IsCacheOf self.now cache.old }
+        requires own { IsCacheOf self.now cache.old }
+        requires within { from ≤ length haystack.now }
         ensures own { IsCacheOf self.now cache.new }
         ensures found { IfOk result (HasFoundStart (config_by self.now) self.now.texts haystack.now from) }
         ensures preferred { IfOk result (HasFoundSpan (config_by self.now) self.now.texts haystack.now from) }
         ensures refused { IfErr result (IsSearchError (config_by self.now) haystack.now) }
     {
-        see_bytes(haystack);
         let fallbacks = match self.take_fallbacks(alloc, cache) {
             Ok(fallbacks) => fallbacks,
             Err(e) => return Err(e),
         };
-        let reported = find_best(alloc, &fallbacks, haystack, from);
+        let utf8 = self.options().syntax.options().utf8;
+        let reported = find_match(alloc, &fallbacks, haystack, from, utf8);
         cache.fallbacks = Some(fallbacks);
-        let found = match reported {
-            Ok(found) => found,
-            Err(e) => return Err(e),
-        };
-        Ok(found)
+        match reported {
+            Ok(found) => Ok(found),
+            Err(_) => Err(SearchError::NoMemory),
+        }
     }
 
     /// An offset at which a search may begin instead, because no match starts before it. If there is none, there is no match.
@@ -176,7 +176,7 @@ impl Regex {
         }
     }
 
-    /// A search by the automata or, if they give up, by the toolchain's regexes.
+    /// A search by the automata or, if they give up, by the toolchain's programs.
     fn find_by_either(
         &self,
         alloc: Global,

@@ -1,7 +1,16 @@
-use Rattle.line_search.proofs.FallbackLemmas.{one_more_tree}
+use Rattle.std.proofs.Common.{List, subst, sym, ◌∙◌}
+use Rattle.regex_hir.specs.Re.{Re}
+use Rattle.regex_syntax.specs.declared.Config.{Config}
+use Rattle.pattern_fallback.specs.Fallbacks.{AreParsedOf}
+use Rattle.pattern_search.proofs.ForCallers.{read_texts}
+use Rattle.line_search.specs.Fallbacks.{AreBoundedOf}
+use Rattle.line_search.proofs.FallbackLemmas.{bounded_alike}
 use Rattle.line_search.proofs.fallback.trees_of.Goals as goal
 
-pub loop-text-preserved : goal.loop-text-preserved
-loop-text-preserved c =
-    one_more_tree c.args.how.now c.args.texts.now _ c.loop-text.text-index c.loop-text.hirs.items c.push.new.self.items c.in-Ok.tree.hir
-    c.loop-text-test.true c.in-Ok-push.ensures.items c.loop-text.invariant c.in-Ok.ensures
+pub returns : goal.returns
+returns c =
+    let texts = read_texts c.args.texts.now in
+    let plain = c.in_ok-parsed.parsed.hirs.items in
+    subst (λ (xs : List Re). AreBoundedOf c.args.how.now texts xs) (sym c.in_ok-hirs.ensures)
+    (bounded_alike c.args.how.now texts plain
+    (subst (λ (k : Config). AreParsedOf k texts plain) (c.options.ensures ∙ c.config_of.ensures) c.in_ok-parsed.ensures))

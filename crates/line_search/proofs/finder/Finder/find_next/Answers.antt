@@ -6,7 +6,7 @@ use Rattle.line_search.specs.FoundSpans.{IsFoundSpan}
 use Rattle.line_search.specs.LineMatchers.{span_pair}
 use Rattle.line_search.specs.Searchers.{Sought}
 use Rattle.line_search.proofs.FoundSpanLemmas.{next_kept, next_later}
-use Rattle.line_search.proofs.SpanLemmas.{found_beyond, next_beyond, none_beyond}
+use Rattle.pattern_fallback.proofs.ForCallers.{found_beyond, next_beyond, none_beyond}
 use Rattle.line_search.proofs.finder.Finder.find_next.Goals as goal
 
 pub returns-then-end-line-clause-reported : goal.returns-then-end-line-clause-reported

@@ -6,6 +6,6 @@ use Rattle.line_search.proofs.slow_search.SlowSearch.make_kept.Goals as goal
 
 pub returns : goal.returns
 returns c =
-    subst (λ (v : PatternOptions × List (List ℕ)). IsProgramOf v.0 v.1 c.in-Ok.searcher.program.now) c.self.view_is
-    (subst (λ (p : Program). IsProgramOf c.self.inside.patterns.now.0 c.self.inside.patterns.now.1 p) (sym c.in-Ok.ensures)
+    subst (λ (v : PatternOptions × List (List ℕ)). IsProgramOf v.0 v.1 c.in_ok-searcher.searcher.program.now) c.self.view_is
+    (subst (λ (p : Program). IsProgramOf c.self.inside.patterns.now.0 c.self.inside.patterns.now.1 p) (sym c.in_ok-searcher.ensures)
     c.in-Some.ensures)

@@ -1,23 +1,28 @@
-use Rattle.std.proofs.Common.{List, ap, map, ◌∙◌}
-use Rattle.meta_regex.specs.declared.fallback.Fallback.{Fallback}
+use Rattle.std.proofs.Common.{◌∙◌, ap, subst}
+use Rattle.regex_syntax.specs.declared.Config.{Config}
+use Rattle.meta_regex.specs.Fallbacks.{IsFoundFor}
 use Rattle.meta_regex.specs.Regexes.{config_by}
-use Rattle.meta_regex.specs.Fallbacks.{best_of, span_by}
+use Rattle.meta_regex.specs.declared.options.Options.{Options}
 use Rattle.meta_regex.proofs.FallbackLemmas.{found_slowly, preferred_slowly}
 use Rattle.meta_regex.proofs.compiled.Regex.find_by_fallbacks.Goals as goal
 
-pub returns-clause-found : goal.returns-clause-found
-returns-clause-found c =
-    found_slowly c.args.haystack.now c.see_bytes.ensures (config_by c.args.self.now) c.args.self.now.texts c.in-Ok.fallbacks.items
-    c.args.from c.in-Ok.ensures.made c.in-Ok-reported.found
-    (c.in-Ok-reported.ensures.best
-    ∙ ap (λ (rs : List Fallback). best_of 0 (map (span_by c.args.haystack.now c.args.from) rs)) c.deref.ensures.value)
+pub returns-in-Ok-reported-clause-found : goal.returns-in-Ok-reported-clause-found
+returns-in-Ok-reported-clause-found c =
+    let h = c.args.haystack.now in
+    let found = c.in-Ok-reported.found in
+    found_slowly (config_by c.args.self.now) c.args.self.now.texts h c.args.from found
+    (λ res read. subst (λ (k : Config). IsFoundFor k.utf8 res h c.args.from found)
+    (c.options-utf8.ensures ∙ ap (λ (o : Options). o.syntax) c.options.ensures)
+    (c.in-Ok-reported.ensures res (c.in-Ok.ensures.made res read)))
 
-pub returns-clause-preferred : goal.returns-clause-preferred
-returns-clause-preferred c =
-    preferred_slowly c.args.haystack.now c.see_bytes.ensures (config_by c.args.self.now) c.args.self.now.texts c.in-Ok.fallbacks.items
-    c.args.from c.in-Ok.ensures.made c.in-Ok-reported.found
-    (c.in-Ok-reported.ensures.best
-    ∙ ap (λ (rs : List Fallback). best_of 0 (map (span_by c.args.haystack.now c.args.from) rs)) c.deref.ensures.value)
+pub returns-in-Ok-reported-clause-preferred : goal.returns-in-Ok-reported-clause-preferred
+returns-in-Ok-reported-clause-preferred c =
+    let h = c.args.haystack.now in
+    let found = c.in-Ok-reported.found in
+    preferred_slowly (config_by c.args.self.now) c.args.self.now.texts h c.args.from found
+    (λ res read. subst (λ (k : Config). IsFoundFor k.utf8 res h c.args.from found)
+    (c.options-utf8.ensures ∙ ap (λ (o : Options). o.syntax) c.options.ensures)
+    (c.in-Ok-reported.ensures res (c.in-Ok.ensures.made res read)))
 
 pub returns-in-Err-clause-refused : goal.returns-in-Err-clause-refused
 returns-in-Err-clause-refused c = c.in-Err.ensures.refused (config_by c.args.self.now) c.args.haystack.now

@@ -1,8 +1,0 @@
-use Rattle.std.proofs.Common.{sym, subst}
-use Rattle.regex_meta.specs.declared.program.Program.{Program}
-use Rattle.line_search.specs.Fallbacks.{IsProgramOf}
-use Rattle.line_search.proofs.fallback.found_from_anew.Goals as goal
-
-pub returns : goal.returns
-returns c how texts it =
-    c.found_from.ensures.reported how texts (subst (λ (p : Program). IsProgramOf how texts p) (sym c.in_ok-searcher.ensures) it)

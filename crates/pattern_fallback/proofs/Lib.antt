@@ -1,0 +1,5 @@
+pub mod ForCallers
+mod NumberLemmas
+mod ParsedLemmas
+mod ProgramLemmas
+mod SpanLemmas
