@@ -3,15 +3,16 @@ use Rattle.std.proofs.Common.{◌≡◌, ◌≤◌, ◌<◌, ℕ, zero, suc, ◌
 use Rattle.std.proofs.Common.{Option, Some, None, refl, sym, ap, ap₂, ◌∙◌, subst, arith, slice_range, if◌then◌else◌}
 use Rattle.std.proofs.lemmas.Bool.{ltb-false}
 use Rattle.std.proofs.lemmas.List.{drop-map, take-map}
-use Rattle.std.proofs.lemmas.Option.{none-some, same_Some}
-use Rattle.std.specs.List.{position, position_or_len}
+use Rattle.std.proofs.lemmas.Option.{none-some, same_Some, slice_get-map}
+use Rattle.std.specs.List.{position, position_or_len, slice_get}
+use Rattle.std.specs.Prelude.{option_map}
 use Rattle.regex_hir.specs.Find.{Match}
 use Rattle.search_types.specs.declared.span.Span.{Span}
 use Rattle.line_search.specs.LineMatchers.{span_pair}
 use Rattle.line_search.specs.Replacing.{written_spans}
 use Rattle.text_report.specs.EventCourse.{IsGroup, group_of}
 use Rattle.text_report.specs.ReplacedProgress.{AreBegun}
-use Rattle.text_report.specs.ReplacedText.{begun_before, end_of_first, past_lines, replaced_offset, spans_of}
+use Rattle.text_report.specs.ReplacedText.{begun_before, end_of_first, end_of_span, past_lines, replaced_offset, spans_of}
 use Rattle.text_report.specs.TextProgress.{matches_of_task}
 use Rattle.text_report.specs.Touching.{NoneStartsBefore, StartInOrder}
 use Rattle.text_report.specs.declared.event_lines.Group.{Group}
@@ -181,3 +182,9 @@ module _ (t : NewTask) (g : Group) (lies : IsGroup t.task.text.now g) (first las
       map span_pair part ≡ spans_of (matches_of_task t.task) (map span_pair t.spans.now) (group_of t.task.text.now g)
   spans_same part is =
       pairs_between t.spans.now part first last is ∙ ap₂ (slice_range (map span_pair t.spans.now)) counted last_same
+
+-- ---- the end of a span
+pub end_of_get : (spans : List Span) (n k : ℕ) → n ≡ suc k → (o : Option Span) → slice_get spans k ≡ o →
+    end_of_span (option_map span_pair o) ≡ end_of_first (map span_pair spans) n
+end_of_get spans n k is o lookup =
+    sym (ap (end_of_first (map span_pair spans)) is ∙ ap end_of_span (slice_get-map span_pair spans k ∙ ap (option_map span_pair) lookup))

@@ -7,7 +7,7 @@ use Rattle.text_report.proofs.replaced_lines.report_new.Goals as goal
 
 pub loop-at-init : goal.loop-at-init
 loop-at-init c = record {
-  waits = c.requires;
+  waits = c.requires.waits;
   past = none_before_first c.args.lines.task.found.now 0 c.args.lines.start refl;
   reports = λ order. no_new c.args.lines
       (lines_from c.args.lines.task.what.now.terminator c.args.lines.task.text.now c.args.number c.args.lines.start) c.args.telling.now

@@ -1,4 +1,4 @@
-use Rattle.std.proofs.Common.{◌≡◌, ◌+◌, ◌∙◌, ap, refl, take}
+use Rattle.std.proofs.Common.{◌≡◌, ◌+◌, ◌∙◌, ap, refl, rules, take}
 use Rattle.text_report.proofs.ReplacedLemmas.{end_same, ordered_between, spans_same, start_same}
 use Rattle.text_report.proofs.replacing.lines_for.Goals as goal
 
@@ -11,7 +11,7 @@ returns c =
     let past = c.in-Some.past in
     let start = c.in-Ok.start in
     let end = c.in-Ok-offset_after.end in
-    let past_is : past ≡ g.last.end + 1 = ? in
+    let past_is : past ≡ g.last.end + 1 = search rules in
     record {
       what = refl;
       name = refl;

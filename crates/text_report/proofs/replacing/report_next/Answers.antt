@@ -8,17 +8,17 @@ use Rattle.text_report.specs.declared.event_lines.EventTask.{EventTask}
 use Rattle.text_report.proofs.ReplacedLemmas.{are_begun, now_begun, still_begun}
 use Rattle.text_report.proofs.replacing.report_next.Goals as goal
 
-pub report_group-requires-lies : goal.report_group-requires-lies
-report_group-requires-lies c =
+pub report_group-requires-clause-lies : goal.report_group-requires-clause-lies
+report_group-requires-clause-lies c =
     subst (λ (z : EventTask). IsGroup z.text.now c.in-Ok.group) c.events_of.ensures c.in-Ok.ensures.lies
 
-pub report_group-requires-counted : goal.report_group-requires-counted
-report_group-requires-counted c =
+pub report_group-requires-clause-counted : goal.report_group-requires-clause-counted
+report_group-requires-clause-counted c =
     now_begun c.args.task.task.found.now c.args.progress.now.first c.begun_before-first.result c.args.progress.now.at
     c.in-Ok.group.first.start c.requires.begun c.begun_before-first.ensures.counted c.in-Ok.ensures.starts
 
-pub report_group-requires-begun : goal.report_group-requires-begun
-report_group-requires-begun c =
+pub report_group-requires-clause-begun : goal.report_group-requires-clause-begun
+report_group-requires-clause-begun c =
     are_begun c.args.task.task.found.now c.begun_before-first.result c.in-Ok.group.first.start
     (now_begun c.args.task.task.found.now c.args.progress.now.first c.begun_before-first.result c.args.progress.now.at
     c.in-Ok.group.first.start c.requires.begun c.begun_before-first.ensures.counted c.in-Ok.ensures.starts)

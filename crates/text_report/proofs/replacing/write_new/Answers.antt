@@ -6,11 +6,11 @@ use Rattle.text_report.proofs.NewReportLemmas.{all_part, all_written, none_to_co
 use Rattle.text_report.proofs.ReplacedLemmas.{none_begun}
 use Rattle.text_report.proofs.replacing.write_new.Goals as goal
 
-pub write_groups-requires-waits : goal.write_groups-requires-waits
-write_groups-requires-waits g c = c.new.ensures.waits c.args.task.task.what.now
+pub write_groups-requires-clause-waits : goal.write_groups-requires-clause-waits
+write_groups-requires-clause-waits g c = c.new.ensures.waits c.args.task.task.what.now
 
-pub write_groups-requires-begun : goal.write_groups-requires-begun
-write_groups-requires-begun g c = none_begun c.args.task.task.found.now 0
+pub write_groups-requires-clause-begun : goal.write_groups-requires-clause-begun
+write_groups-requires-clause-begun g c = none_begun c.args.task.task.found.now 0
 
 pub returns-in-Err-clause-fault : goal.returns-in-Err-clause-fault
 returns-in-Err-clause-fault g c order flags =

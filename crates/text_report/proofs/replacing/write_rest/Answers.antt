@@ -11,7 +11,7 @@ returns-in-Ok-write_end-clause-written g c =
     rest_written c.args.task c.args.telling.now c.args.out.now (g.W.Write.contents c.args.writer.now) (g.W.Write.contents c.write_out.new.writer)
     (g.W.Write.contents c.write_end.new.writer) c.in-Ok.ensures.ok c.in-Ok-write_end.ensures.written
 
-pub returns-clause-fault : goal.returns-clause-fault
-returns-clause-fault g c =
+pub returns-in-Err-write_end-clause-fault : goal.returns-in-Err-write_end-clause-fault
+returns-in-Err-write_end-clause-fault g c =
     rest_part c.args.task c.args.telling.now c.args.out.now (g.W.Write.contents c.args.writer.now) (g.W.Write.contents c.write_out.new.writer)
     (g.W.Write.contents c.write_end.new.writer) c.in-Ok.ensures.ok c.in-Err-write_end.ensures.fault
