@@ -6,6 +6,7 @@ pub mod Given
 pub mod GrepColors
 pub mod Ignores
 pub mod Outcomes
+pub mod PrintedNames
 pub mod Readings
 pub mod Selecting
 pub mod SmartCase

@@ -109,18 +109,6 @@ fn sought_of<'t>(rt: &HostRuntime, asked: &Asked, texts: &'t [&'t str]) -> LineP
     LinePatterns::new(rt.alloc(), texts, &asked.how)
 }
 
-/// Searches files for patterns. `texts` are the patterns in the syntax that is parsed.
-fn search_words(
-    rt: &HostRuntime,
-    asked: &Asked,
-    patterns: &[&str],
-    texts: &[&str],
-    files: Files<'_>,
-) -> Result<Outcome, AllocError> {
-    let sought = sought_of(rt, asked, texts);
-    search_texts(rt, asked, patterns, texts, &sought, files)
-}
-
 /// What is asked for, with the case of letters that these patterns ask for under smart case. They are in the syntax that is parsed.
 fn with_case<'a>(asked: &Asked<'a>, texts: &[&str]) -> Asked<'a>
     ensures { result ≡ with_case asked.now (map (λ s. s.now) texts.now) }
@@ -152,5 +140,7 @@ pub fn search(
     let texts = texts_of(rt.alloc(), asked, patterns.as_slice())?;
     let words = strs_of(rt.alloc(), texts.as_slice())?;
     let asked = with_case(asked, words.as_slice());
-    search_words(rt, &asked, patterns.as_slice(), words.as_slice(), files)
+    let words = words.as_slice();
+    let sought = sought_of(rt, &asked, words);
+    search_texts(rt, &asked, patterns.as_slice(), words, &sought, files)
 }

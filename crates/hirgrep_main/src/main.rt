@@ -19,12 +19,12 @@ mod searching;
 mod task;
 
 use crate::compiling::search;
-use crate::files::selecting_files::{Selection, selection_of};
+use crate::files::selecting_files::selection_of;
 use crate::options::arguments::{arguments_of, report_usage};
 use crate::options::asked::{
     Asked, Directories, asked_of, color_of, groups_of, input_name, is_colorful, template_of,
 };
-use crate::options::file_types::{TYPES, list_of_types};
+use crate::options::file_types::{known_types, list_of_types};
 use crate::options::patterns::{gives_patterns, lines_of, patterns_of};
 use crate::options::texts::GivenTexts;
 use crate::options::type_changes::{changes_types, types_changed};
@@ -102,17 +102,33 @@ fn run_list(rt: &HostRuntime, asked: &Asked, files: Files<'_>) -> Result<Outcome
     search(rt, &asked, &[], files)
 }
 
-/// Runs the search that the options ask for, of the files that they choose.
-fn run_chosen(
+/// Runs the search that the options ask for, of the files that they choose, in the folder that is named, if there is one.
+fn run_asked(
     rt: &HostRuntime,
     asked: &Asked,
     matches: &ArgMatches<'_>,
-    selection: &Selection,
 ) -> Result<Outcome, AllocError> {
+    if !enter(rt, matches.get_strs("directory").unwrap_or(&[])) {
+        return Ok(Outcome::failure());
+    }
+    let mut changed = None;
+    if changes_types(matches) {
+        changed = types_changed(rt, known_types(), matches)?;
+        if changed.is_none() {
+            return Ok(Outcome::failure());
+        }
+    }
+    let types = match &changed {
+        Some(types) => types.as_slice(),
+        None => known_types(),
+    };
+    let Some(selection) = selection_of(rt, asked, types, matches)? else {
+        return Ok(Outcome::failure());
+    };
     let words = Files {
         names: matches.get_strs("words").unwrap_or(&[]),
         input_name: input_name(matches),
-        selection,
+        selection: &selection,
         pattern_files: &[],
     };
     if selection.lists {
@@ -124,40 +140,9 @@ fn run_chosen(
     run_words(rt, asked, words)
 }
 
-/// Runs the search that the options ask for, of files of these types.
-fn run_typed(
-    rt: &HostRuntime,
-    asked: &Asked,
-    types: &[(&str, &str)],
-    matches: &ArgMatches<'_>,
-) -> Result<Outcome, AllocError> {
-    match selection_of(rt, asked, types, matches)? {
-        Some(selection) => run_chosen(rt, asked, matches, &selection),
-        None => Ok(Outcome::failure()),
-    }
-}
-
-/// Runs the search that the options ask for, in the folder that is named, if there is one.
-fn run_asked(
-    rt: &HostRuntime,
-    asked: &Asked,
-    matches: &ArgMatches<'_>,
-) -> Result<Outcome, AllocError> {
-    if !enter(rt, matches.get_strs("directory").unwrap_or(&[])) {
-        return Ok(Outcome::failure());
-    }
-    if !changes_types(matches) {
-        return run_typed(rt, asked, &TYPES, matches);
-    }
-    match types_changed(rt, &TYPES, matches)? {
-        Some(types) => run_typed(rt, asked, &types, matches),
-        None => Ok(Outcome::failure()),
-    }
-}
-
 /// Prints the types of files, and returns the exit status.
 fn print_types(rt: &HostRuntime, matches: &ArgMatches<'_>) -> Result<u8, AllocError> {
-    let Some(types) = types_changed(rt, &TYPES, matches)? else {
+    let Some(types) = types_changed(rt, known_types(), matches)? else {
         return Ok(2);
     };
     let text = list_of_types(rt.alloc(), &types)?;
@@ -168,25 +153,6 @@ fn print_types(rt: &HostRuntime, matches: &ArgMatches<'_>) -> Result<u8, AllocEr
             Ok(2)
         }
     }
-}
-
-/// Runs the search that the options ask for, with these names and separators, and returns the exit status.
-fn run_with<'a>(
-    rt: &HostRuntime,
-    matches: &'a ArgMatches<'_>,
-    is_colorful: bool,
-    given: &'a GivenTexts,
-) -> Result<u8, AllocError> {
-    let texts = given.texts(matches.get_str("path-separator"));
-    let asked = asked_of(
-        matches,
-        is_colorful,
-        texts,
-        groups_of(matches),
-        template_of(matches),
-    );
-    let outcome = run_asked(rt, &asked, matches)?;
-    Ok(outcome.status(&asked))
 }
 
 /// Runs what the command line asks for, and returns the exit status. Basic regular expressions are an error.
@@ -205,7 +171,15 @@ fn run_matches(rt: &HostRuntime, matches: &ArgMatches<'_>) -> Result<u8, AllocEr
     let is_colorful = is_colorful(rt);
     let given = GivenTexts::new(rt, matches, color_of(matches, is_colorful))?;
     given.report_old_colors(rt);
-    run_with(rt, matches, is_colorful, &given)
+    let asked = asked_of(
+        matches,
+        is_colorful,
+        given.texts(matches.get_str("path-separator")),
+        groups_of(matches),
+        template_of(matches),
+    );
+    let outcome = run_asked(rt, &asked, matches)?;
+    Ok(outcome.status(&asked))
 }
 
 fn run(rt: &HostRuntime) -> Result<u8, AllocError> {

@@ -282,37 +282,6 @@ fn search_directory(
     Ok(())
 }
 
-/// Searches what an argument names, or records that it can't be searched.
-fn search_as(
-    rt: &HostRuntime,
-    finder: &mut Finder<'_>,
-    task: Task<'_>,
-    outcome: &mut Outcome,
-    path: &str,
-    named: io::Result<Named>,
-) -> Result<(), AllocError>
-    ensures unknown { IfErr named (λ _. outcome.new ≡ with_failure outcome.old) }
-    ensures rejected { named ≡ Ok Folder → task.entry.asked.now.directories ≡ Reject → outcome.new ≡ with_failure outcome.old }
-    ensures skipped { named ≡ Ok Folder → task.entry.asked.now.directories ≡ Skip → outcome.new ≡ outcome.old }
-    ensures device { named ≡ Ok Device → reads_named task.entry.asked.now.devices ≡ false → outcome.new ≡ outcome.old }
-    ensures read { named ≡ Ok Device → reads_named task.entry.asked.now.devices ≡ true → Tries outcome.old outcome.new }
-    ensures file { named ≡ Ok File → Tries outcome.old outcome.new }
-    ensures input { named ≡ Ok Input → task.entry.selection.now.lists ≡ false → Tries outcome.old outcome.new }
-    ensures continues { Continues outcome.old outcome.new }
-{
-    match named {
-        Ok(Named::Input) => search_input(rt, finder, task, outcome),
-        Ok(Named::File) => search_file(rt, finder, task, outcome, path),
-        Ok(Named::Folder) => return search_directory(rt, finder, task, outcome, path),
-        Ok(Named::Device) => {
-            let is_read = reads_named(task.asked.devices);
-            search_device(rt, finder, task, outcome, path, is_read);
-        }
-        Err(e) => outcome.fail(rt, task.asked, path, e),
-    }
-    Ok(())
-}
-
 /// Whether the options leave out what an argument names.
 fn leaves_out(alloc: Global, task: Task<'_>, path: &str, named: Named) -> Result<bool, AllocError>
     ensures { IfOk result (λ is. is ≡ leaves_out (selection task.entry.selection.now) task.entry.bare named path.now) }
@@ -344,8 +313,8 @@ fn is_left_out(
     }
 }
 
-/// Searches what an argument names, unless the options leave it out.
-fn search_chosen(
+/// Searches what an argument names, unless the options leave it out, or records that it can't be searched.
+fn search_as(
     rt: &HostRuntime,
     finder: &mut Finder<'_>,
     task: Task<'_>,
@@ -354,45 +323,30 @@ fn search_chosen(
     named: io::Result<Named>,
 ) -> Result<(), AllocError>
     ensures left { is_left_out (selection task.entry.selection.now) task.entry.bare named path.now ≡ true → outcome.new ≡ outcome.old }
+    ensures unknown { IfErr named (λ _. OnOk result (outcome.new ≡ with_failure outcome.old)) }
+    ensures rejected { is_left_out (selection task.entry.selection.now) task.entry.bare named path.now ≡ false
+        → named ≡ Ok Folder → task.entry.asked.now.directories ≡ Reject → OnOk result (outcome.new ≡ with_failure outcome.old) }
+    ensures skipped { named ≡ Ok Folder → task.entry.asked.now.directories ≡ Skip → outcome.new ≡ outcome.old }
+    ensures device { named ≡ Ok Device → reads_named task.entry.asked.now.devices ≡ false → outcome.new ≡ outcome.old }
+    ensures read { is_left_out (selection task.entry.selection.now) task.entry.bare named path.now ≡ false
+        → named ≡ Ok Device → reads_named task.entry.asked.now.devices ≡ true → OnOk result (Tries outcome.old outcome.new) }
     ensures file { is_left_out (selection task.entry.selection.now) task.entry.bare named path.now ≡ false
         → named ≡ Ok File → OnOk result (Tries outcome.old outcome.new) }
-    ensures unknown { IfErr named (λ _. OnOk result (outcome.new ≡ with_failure outcome.old)) }
+    ensures input { named ≡ Ok Input → task.entry.selection.now.lists ≡ false → OnOk result (Tries outcome.old outcome.new) }
     ensures continues { Continues outcome.old outcome.new }
 {
     if is_left_out(rt.alloc(), task, path, &named)? {
         return Ok(());
     }
-    search_as(rt, finder, task, outcome, path, named)
-}
-
-/// Searches what an argument names.
-fn search_named(
-    rt: &HostRuntime,
-    finder: &mut Finder<'_>,
-    task: Task<'_>,
-    outcome: &mut Outcome,
-    path: &str,
-) -> Result<(), AllocError>
-    ensures { Continues outcome.old outcome.new }
-{
-    search_chosen(rt, finder, task, outcome, path, named_at(rt, path))
-}
-
-/// Searches what arguments name.
-fn search_all(
-    rt: &HostRuntime,
-    finder: &mut Finder<'_>,
-    task: Task<'_>,
-    outcome: &mut Outcome,
-    files: &[&str],
-) -> Result<(), AllocError>
-    ensures { Continues outcome.old outcome.new }
-{
-    for path in files {
-        search_named(rt, finder, task, outcome, path)?;
-        if outcome.ended {
-            break;
+    match named {
+        Ok(Named::Input) => search_input(rt, finder, task, outcome),
+        Ok(Named::File) => search_file(rt, finder, task, outcome, path),
+        Ok(Named::Folder) => return search_directory(rt, finder, task, outcome, path),
+        Ok(Named::Device) => {
+            let is_read = reads_named(task.asked.devices);
+            search_device(rt, finder, task, outcome, path, is_read);
         }
+        Err(e) => outcome.fail(rt, task.asked, path, e),
     }
     Ok(())
 }
@@ -407,24 +361,34 @@ fn may_be_several(directories: Directories, named: &io::Result<Named>) -> bool
     }
 }
 
-/// Searches the only file or folder that arguments name.
-fn search_one(
-    rt: &HostRuntime,
-    finder: &mut Finder<'_>,
-    task: Task<'_>,
-    outcome: &mut Outcome,
-    path: &str,
-) -> Result<(), AllocError>
-    ensures { Continues outcome.old outcome.new }
-{
-    let named = named_at(rt, path);
-    let several = may_be_several(task.asked.directories, &named);
-    let with_name = is_named(task.asked, several);
-    let task = Task { with_name, ..task };
-    search_chosen(rt, finder, task, outcome, path, named)
+/// What files are searched for, where no names are printed yet.
+fn task_of<'a>(rt: &HostRuntime, asked: &'a Asked<'a>, files: Files<'a>) -> Task<'a> {
+    Task {
+        asked,
+        with_name: false,
+        bare: files.names.is_empty(),
+        input_name: files.input_name,
+        output: output_file(rt),
+        selection: files.selection,
+        width: 0,
+        hides_controls: hides_controls(
+            rt.stdout().is_terminal(),
+            asked.what.zero_names || prints_json(asked.reading),
+        ),
+    }
 }
 
-/// Searches what arguments name. If they name nothing, searches the current folder or standard input.
+/// What is searched if no argument names anything.
+fn default_path(directories: Directories) -> &'static str {
+    if directories == Directories::Recurse {
+        "."
+    } else {
+        "-"
+    }
+}
+
+/// Searches what arguments name. If they name nothing, searches the current folder or standard input. Names are printed if several files may
+/// be searched, or if options ask for them.
 pub fn search_files(
     rt: &HostRuntime,
     finder: &mut Finder<'_>,
@@ -434,26 +398,23 @@ pub fn search_files(
 ) -> Result<(), AllocError>
     ensures { Continues outcome.old outcome.new }
 {
-    let task = Task {
-        asked,
-        with_name: is_named(asked, true),
-        bare: false,
-        input_name: files.input_name,
-        output: output_file(rt),
-        selection: files.selection,
-        width: 0,
-        hides_controls: hides_controls(
-            rt.stdout().is_terminal(),
-            asked.what.zero_names || prints_json(asked.reading),
-        ),
-    };
-    match files.names {
-        [] => {
-            let task = Task { bare: true, ..task };
-            let recursive = asked.directories == Directories::Recurse;
-            search_one(rt, finder, task, outcome, if recursive { "." } else { "-" })
-        }
-        [path] => search_one(rt, finder, task, outcome, path),
-        _ => search_all(rt, finder, task, outcome, files.names),
+    let task = task_of(rt, asked, files);
+    if files.names.is_empty() {
+        let path = default_path(asked.directories);
+        let named = named_at(rt, path);
+        let with_name = is_named(asked, may_be_several(asked.directories, &named));
+        let task = Task { with_name, ..task };
+        return search_as(rt, finder, task, outcome, path, named);
     }
+    for path in files.names {
+        let named = named_at(rt, path);
+        let several = files.names.len() > 1 || may_be_several(asked.directories, &named);
+        let with_name = is_named(asked, several);
+        let task = Task { with_name, ..task };
+        search_as(rt, finder, task, outcome, path, named)?;
+        if outcome.ended {
+            break;
+        }
+    }
+    Ok(())
 }

@@ -26,10 +26,11 @@ use crate::options::texts::separated_name;
 use crate::results::messages::Causes;
 use crate::results::outcome::Outcome;
 use crate::results::output::Output;
+use crate::results::shown::PrintedName;
 use crate::task::{Task, shown_name};
 use grep_core::{Headed, OutputOptions};
 use line_search::Finder;
-use std::alloc::AllocError;
+use std::alloc::{AllocError, Global};
 use std::io::{Read, Stdin, Write};
 use std::rt::Runtime;
 use std::{fs, io};
@@ -98,27 +99,7 @@ fn is_refused_output(
     is_refused
 }
 
-/// Searches what was opened, or records that it can't be opened.
-fn search_opened<R: Read + Drop>(
-    rt: &HostRuntime,
-    finder: &mut Finder<'_>,
-    task: Task<'_>,
-    outcome: &mut Outcome,
-    name: &str,
-    opened: io::Result<R>,
-)
-    ensures read { IfOk opened (λ _. outcome.new.files ≡ counted outcome.old.files 1) }
-    ensures unread { IfErr opened (λ _. outcome.new ≡ with_failure outcome.old) }
-    ensures tried { Tries outcome.old outcome.new }
-    ensures continues { Continues outcome.old outcome.new }
-{
-    match opened {
-        Ok(reader) => search_reader(rt, finder, task, outcome, name, reader, rt.stdout()),
-        Err(e) => outcome.fail(rt, task.asked, name, e),
-    }
-}
-
-/// Searches what was opened, with numbers at least this wide, or records that memory ran out.
+/// Searches what was opened, with numbers at least this wide. Or records that it can't be opened, or that memory ran out.
 fn search_aligned<R: Read + Drop>(
     rt: &HostRuntime,
     finder: &mut Finder<'_>,
@@ -129,13 +110,19 @@ fn search_aligned<R: Read + Drop>(
     opened: io::Result<R>,
 )
     ensures unknown { IfErr width (λ _. outcome.new ≡ with_failure outcome.old) }
+    ensures unread { IfErr opened (λ _. outcome.new ≡ with_failure outcome.old) }
     ensures read { IfOk width (λ _. IfOk opened (λ _. outcome.new.files ≡ counted outcome.old.files 1)) }
     ensures tried { Tries outcome.old outcome.new }
     ensures continues { Continues outcome.old outcome.new }
 {
-    match width {
-        Ok(width) => search_opened(rt, finder, Task { width, ..task }, outcome, name, opened),
-        Err(_) => outcome.fail_with(rt, task.asked, name, "out of memory"),
+    let Ok(width) = width else {
+        outcome.fail_with(rt, task.asked, name, "out of memory");
+        return;
+    };
+    let task = Task { width, ..task };
+    match opened {
+        Ok(reader) => search_reader(rt, finder, task, outcome, name, reader, rt.stdout()),
+        Err(e) => outcome.fail(rt, task.asked, name, e),
     }
 }
 
@@ -209,27 +196,18 @@ pub fn search_input(
     reader.leave(after);
 }
 
-/// Searches a file under this name, or prints the name.
-fn search_under(
-    rt: &HostRuntime,
-    finder: &mut Finder<'_>,
+/// The name that is printed for the file at a path, with another separator if one is asked for.
+fn file_name<'a>(
+    alloc: Global,
     task: Task<'_>,
-    outcome: &mut Outcome,
-    name: &str,
-    path: &str,
-)
-    ensures tried { Tries outcome.old outcome.new }
-    ensures continues { Continues outcome.old outcome.new }
-{
-    if task.selection.lists {
-        list_file(rt, task, outcome, name);
-        return;
-    }
-    if is_refused_output(rt, task, outcome, name, path) {
-        return;
-    }
-    let width = width_at(rt, &task.asked.what, path);
-    search_aligned(rt, finder, task, outcome, name, width, fs::open(rt, path));
+    path: &'a str,
+) -> Result<PrintedName<'a>, AllocError> {
+    let name = shown_name(task, path);
+    let Some(separator) = task.asked.path_separator else {
+        return Ok(PrintedName::Given(name));
+    };
+    let made = separated_name(alloc, separator, name)?;
+    Ok(PrintedName::Made(made))
 }
 
 /// Searches a file, or prints its name.
@@ -243,12 +221,18 @@ pub fn search_file(
     ensures tried { Tries outcome.old outcome.new }
     ensures continues { Continues outcome.old outcome.new }
 {
-    let name = shown_name(task, path);
-    let Some(separator) = task.asked.path_separator else {
-        return search_under(rt, finder, task, outcome, name, path);
+    let Ok(name) = file_name(rt.alloc(), task, path) else {
+        outcome.fail_with(rt, task.asked, path, "out of memory");
+        return;
     };
-    match separated_name(rt.alloc(), separator, name) {
-        Ok(name) => search_under(rt, finder, task, outcome, name.as_str(), path),
-        Err(_) => outcome.fail_with(rt, task.asked, path, "out of memory"),
+    let name = name.as_str();
+    if task.selection.lists {
+        list_file(rt, task, outcome, name);
+        return;
     }
+    if is_refused_output(rt, task, outcome, name, path) {
+        return;
+    }
+    let width = width_at(rt, &task.asked.what, path);
+    search_aligned(rt, finder, task, outcome, name, width, fs::open(rt, path));
 }

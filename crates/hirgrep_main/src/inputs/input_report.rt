@@ -3,7 +3,7 @@ ghost use Rattle.std.specs.Prelude.{◌≡◌, ◌++◌, IfSome};
 ghost use Rattle.hirgrep_main.specs.Readings.{lists_matches};
 ghost use Rattle.line_search.specs.Searchers.{SearchesFor};
 ghost use Rattle.hirgrep_main.specs.Binaries.{has_zero, searched_bytes};
-ghost use Rattle.hirgrep_main.specs.Texts.{printed_name, without_controls};
+ghost use Rattle.hirgrep_main.specs.Texts.{printed_name};
 ghost use Rattle.hirgrep_main.specs.Tasks.{IsInputReported, count_for, count_of, patterns_by, report_for, report_in, whole_report_for, whole_report_in};
 
 use crate::inputs::binary::{Binary, is_noticed};
@@ -11,7 +11,7 @@ use crate::inputs::first_bytes::{Searched, has_zero, read_first};
 use crate::inputs::reporting::report_reader;
 use crate::results::messages::report_reason;
 use crate::results::outcome::Outcome;
-use crate::results::shown::without_controls;
+use crate::results::shown::printed_name;
 use crate::task::Task;
 use grep_core::Headed;
 use json_events::Stats;
@@ -104,74 +104,8 @@ fn report_binary<R: Read, W: Write>(
     }
 }
 
-/// Searches the input of a reader, and writes the output for it under this name as it is. If inputs with a zero byte aren't text, the first
-/// bytes decide what is printed.
-fn report_named<R: Read, W: Write>(
-    rt: &HostRuntime,
-    finder: &mut Finder<'_>,
-    task: Task<'_>,
-    outcome: Outcome,
-    name: &str,
-    reader: &mut R,
-    writer: &mut Headed<W>,
-    totals: &mut Stats,
-) -> Result<u64, Fault>
-    ensures same { finder.new ≡ finder.old }
-    ensures reported { (by : SearchesFor finder.old (lists_matches task.entry.asked.now)) → IfSome (R.remaining reader.old) (λ text.
-        IsInputReported (W.contents writer.old.writer) (W.contents writer.new.writer) result
-        (report_in task.entry outcome (patterns_by by) name.now text) (whole_report_in task.entry outcome (patterns_by by) name.now text)
-        (count_of task.entry (patterns_by by) name.now text)) }
-{
-    match task.asked.binary {
-        Binary::AsText => report_reader(
-            rt.alloc(),
-            finder,
-            task,
-            false,
-            outcome,
-            name,
-            reader,
-            writer,
-            totals,
-        ),
-        _ => report_binary(rt, finder, task, outcome, name, reader, writer, totals),
-    }
-}
-
-/// Searches the input of a reader, and writes the output for it under this name without its control characters.
-fn report_hidden<R: Read, W: Write>(
-    rt: &HostRuntime,
-    finder: &mut Finder<'_>,
-    task: Task<'_>,
-    outcome: Outcome,
-    name: &str,
-    reader: &mut R,
-    writer: &mut Headed<W>,
-    totals: &mut Stats,
-) -> Result<u64, Fault>
-    ensures same { finder.new ≡ finder.old }
-    ensures reported { (by : SearchesFor finder.old (lists_matches task.entry.asked.now)) → IfSome (R.remaining reader.old) (λ text.
-        IsInputReported (W.contents writer.old.writer) (W.contents writer.new.writer) result
-        (report_in task.entry outcome (patterns_by by) (without_controls name.now) text)
-        (whole_report_in task.entry outcome (patterns_by by) (without_controls name.now) text)
-        (count_of task.entry (patterns_by by) (without_controls name.now) text)) }
-{
-    match without_controls(rt.alloc(), name) {
-        Ok(shown) => report_named(
-            rt,
-            finder,
-            task,
-            outcome,
-            shown.as_str(),
-            reader,
-            writer,
-            totals,
-        ),
-        Err(_) => Err(Fault::NoMemory),
-    }
-}
-
-/// Searches the input of a reader, and writes the output for it under this name, whose control characters may be hidden.
+/// Searches the input of a reader, and writes the output for it under this name, whose control characters may be hidden. If inputs with a
+/// zero byte aren't text, the first bytes decide what is printed.
 pub fn report_one<R: Read, W: Write>(
     rt: &HostRuntime,
     finder: &mut Finder<'_>,
@@ -189,8 +123,22 @@ pub fn report_one<R: Read, W: Write>(
         (whole_report_in task.entry outcome (patterns_by by) (printed_name task.entry.hides_controls name.now) text)
         (count_of task.entry (patterns_by by) (printed_name task.entry.hides_controls name.now) text)) }
 {
-    if task.hides_controls {
-        return report_hidden(rt, finder, task, outcome, name, reader, writer, totals);
+    let Ok(printed) = printed_name(rt.alloc(), task.hides_controls, name) else {
+        return Err(Fault::NoMemory);
+    };
+    let name = printed.as_str();
+    match task.asked.binary {
+        Binary::AsText => report_reader(
+            rt.alloc(),
+            finder,
+            task,
+            false,
+            outcome,
+            name,
+            reader,
+            writer,
+            totals,
+        ),
+        _ => report_binary(rt, finder, task, outcome, name, reader, writer, totals),
     }
-    report_named(rt, finder, task, outcome, name, reader, writer, totals)
 }

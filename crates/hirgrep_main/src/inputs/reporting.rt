@@ -1,11 +1,9 @@
 //! What is printed for one input, with the options that depend on it.
 ghost use Rattle.std.specs.Prelude.{◌≡◌, IfSome};
 ghost use Rattle.line_search.specs.Searchers.{SearchesFor};
-ghost use Rattle.grep_core.specs.Reporting.{needs_spans};
 ghost use Rattle.hirgrep_main.specs.Decisions.{is_headed};
 ghost use Rattle.hirgrep_main.specs.Readings.{lists_matches};
 ghost use Rattle.hirgrep_main.specs.Tasks.{IsInputReported, count_for, patterns_by, options_for, options_in, report_for, whole_report_for};
-ghost use Rattle.hirgrep_main.specs.declared.inputs.reading.Reading.TheVariants.{Lines};
 
 use crate::inputs::binary::{options_by, prints_lines};
 use crate::inputs::reading::is_by_lines;
@@ -42,49 +40,6 @@ fn options_for<'a>(task: Task<'a>, zero: bool) -> OutputOptions<'a>
     options_by(task.asked.binary, zero, options_in(task))
 }
 
-/// Reads the input of a reader line by line, and writes the output for it under this name. `zero` says whether the input is binary, and
-/// `outcome` is that of earlier inputs.
-fn report_by_lines<R: Read, W: Write>(
-    alloc: Global,
-    finder: &mut Finder<'_>,
-    task: Task<'_>,
-    zero: bool,
-    outcome: Outcome,
-    name: &str,
-    reader: &mut R,
-    writer: &mut Headed<W>,
-) -> Result<u64, Fault>
-    ensures same { finder.new ≡ finder.old }
-    ensures reported { (by : SearchesFor finder.old (needs_spans task.entry.asked.now.what)) → IfSome (R.remaining reader.old) (λ bytes.
-        IsInputReported (W.contents writer.old.writer) (W.contents writer.new.writer) result
-        (report_for Lines task.entry zero outcome (patterns_by by) name.now bytes)
-        (whole_report_for Lines task.entry zero outcome (patterns_by by) name.now bytes) (count_for Lines task.entry zero (patterns_by by) name.now bytes)) }
-{
-    let what = options_for(task, zero);
-    if is_headed(task.asked.heading, what.print) {
-        return report_headed(
-            alloc,
-            finder,
-            &what,
-            name.as_bytes(),
-            task.with_name,
-            outcome.printed,
-            reader,
-            writer,
-        );
-    }
-    report_input(
-        alloc,
-        finder,
-        &what,
-        name.as_bytes(),
-        task.with_name,
-        outcome.known(),
-        reader,
-        &mut writer.writer,
-    )
-}
-
 /// Searches the input of a reader, and writes the output for it: the report that was asked for, under this name. `zero` says whether the
 /// input is binary, and `outcome` is that of earlier inputs. What was searched is added to `totals`, if it is printed as JSON.
 pub fn report_reader<R: Read, W: Write>(
@@ -105,12 +60,33 @@ pub fn report_reader<R: Read, W: Write>(
         (whole_report_for task.entry.asked.now.reading task.entry zero outcome (patterns_by by) name.now bytes)
         (count_for task.entry.asked.now.reading task.entry zero (patterns_by by) name.now bytes)) }
 {
-    if is_by_lines(task.asked.reading) {
-        return report_by_lines(alloc, finder, task, zero, outcome, name, reader, writer);
-    }
     let what = options_for(task, zero);
     let name = name.as_bytes();
-    report_whole(
-        alloc, finder, task, &what, outcome, name, reader, writer, totals,
+    if !is_by_lines(task.asked.reading) {
+        return report_whole(
+            alloc, finder, task, &what, outcome, name, reader, writer, totals,
+        );
+    }
+    if is_headed(task.asked.heading, what.print) {
+        return report_headed(
+            alloc,
+            finder,
+            &what,
+            name,
+            task.with_name,
+            outcome.printed,
+            reader,
+            writer,
+        );
+    }
+    report_input(
+        alloc,
+        finder,
+        &what,
+        name,
+        task.with_name,
+        outcome.known(),
+        reader,
+        &mut writer.writer,
     )
 }

@@ -7,7 +7,7 @@ use globs::{Rule, chars_of};
 use std::alloc::{AllocError, Global};
 
 /// The types and globs of names of their files, a row for each glob, in the order of the names. The names are those that ripgrep has.
-pub const TYPES: [(&str, &str); 289] = [
+const TYPES: [(&str, &str); 289] = [
     ("agda", "*.agda"),
     ("agda", "*.lagda"),
     ("asciidoc", "*.adoc"),
@@ -298,6 +298,11 @@ pub const TYPES: [(&str, &str); 289] = [
     ("zsh", "zshenv"),
     ("zsh", "zshrc"),
 ];
+
+/// The types of files without options that change them. It is a function, since the prover reads the whole table in each one that names it.
+pub fn known_types() -> &'static [(&'static str, &'static str)] {
+    &TYPES
+}
 
 /// Whether a row is of this type. All rows are of the type `all`.
 pub fn is_of(row: &(&str, &str), name: &str) -> bool

@@ -1,7 +1,8 @@
 //! Names and other text in messages and at a terminal, without control characters.
 ghost use Rattle.std.specs.Prelude.{◌≡◌, IfOk, string_bytes};
 ghost use Rattle.hirgrep_main.specs.Decisions.{hides_controls, shown_char};
-ghost use Rattle.hirgrep_main.specs.Texts.{without_controls};
+ghost use Rattle.hirgrep_main.specs.PrintedNames.{name_bytes};
+ghost use Rattle.hirgrep_main.specs.Texts.{printed_name, without_controls};
 
 use std::alloc::{AllocError, Global};
 use std::fmt;
@@ -46,6 +47,39 @@ pub fn hides_controls(is_terminal: bool, zero_names: bool) -> bool
     ensures { result ≡ hides_controls is_terminal zero_names }
 {
     is_terminal && !zero_names
+}
+
+/// A name as it was given, or another one that was made of it.
+#[derive(Drop)]
+pub enum PrintedName<'a> {
+    Given(&'a str),
+    Made(String),
+}
+
+impl<'a> PrintedName<'a> {
+    pub fn as_str(&self) -> &str
+        ensures { result.now ≡ name_bytes self.now }
+    {
+        match self {
+            PrintedName::Given(name) => name,
+            PrintedName::Made(name) => name.as_str(),
+        }
+    }
+}
+
+/// A name as it is printed, given whether control characters are hidden.
+pub fn printed_name<'a>(
+    alloc: Global,
+    hides: bool,
+    name: &'a str,
+) -> Result<PrintedName<'a>, AllocError>
+    ensures { IfOk result (λ n. name_bytes n ≡ printed_name hides name.now) }
+{
+    if !hides {
+        return Ok(PrintedName::Given(name));
+    }
+    let made = without_controls(alloc, name)?;
+    Ok(PrintedName::Made(made))
 }
 
 /// A name with a question mark for each control character.

@@ -1,5 +1,5 @@
 use Rattle.hirgrep_main.proofs.OutcomeLemmas.{continues_on, tries_after, unrefused}
-use Rattle.hirgrep_main.proofs.files.opening.search_under.Goals as goal
+use Rattle.hirgrep_main.proofs.files.opening.search_file.Goals as goal
 
 pub returns-clause-tried : goal.returns-clause-tried
 returns-clause-tried c = tries_after (unrefused c.is_refused_output.result c.is_refused_output.ensures.came (search)) c.search_aligned.ensures.tried

@@ -1,5 +1,0 @@
-use Rattle.hirgrep_main.proofs.OutcomeLemmas.{continues_on}
-use Rattle.hirgrep_main.proofs.searching.search_all.Goals as goal
-
-pub loop-path-preserved : goal.loop-path-preserved
-loop-path-preserved c = continues_on c.loop-path.invariant c.in_ok-search_named.ensures
