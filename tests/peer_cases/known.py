@@ -14,6 +14,7 @@ RIPGREP = {
     "feature f411_single_threaded_search_stats": WORDING + ", which `--stats` prints to standard error",
     "feature f411_parallel_search_stats": WORDING + ", which `--stats` prints to standard error",
     "json r1095_crlf_empty_match": GREP_HABIT + ": a line feed in an argument separates patterns",
+    "regression r1311_multi_line_term_replace": GREP_HABIT + ": a line feed in an argument separates patterns",
     "misc preprocessing": PRE,
     "misc preprocessing_glob": PRE,
     "feature f416_crlf_only_matching": "with `--crlf`, what isn't a whole line ends by a line feed",

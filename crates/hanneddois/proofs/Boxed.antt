@@ -7,8 +7,8 @@ use Rattle.std.proofs.BoxSteps.Form.{Bx}
 use Rattle.std.specs.contracts.alloc.Global as heap
 use Rattle.std.specs.contracts.impls.GlobalAllocator.TheImpl.{ghosts, dict}
 use Rattle.std.proofs.alloc.Global.TheLaws as heap_laws
-use Rattle.capi.specs.contracts.compiled.Compiled as regex
-use Rattle.capi.proofs.compiled.Compiled.TheLaws as regex_laws
+use Rattle.ffi_core.specs.contracts.compiled.Compiled as regex
+use Rattle.ffi_core.proofs.compiled.Compiled.TheLaws as regex_laws
 use Rattle.hanneddois.specs.contracts.apart.Apart as apart
 use Rattle.hanneddois.specs.contracts.handle.Handle as handle
 

@@ -6,8 +6,8 @@ use Rattle.meta_regex.specs.declared.found_match.FoundMatch.{FoundMatch}
 use Rattle.captures.specs.NextMatches.{AreNext, AreNextBegun}
 use Rattle.captures.specs.declared.errors.CapturesError.{CapturesError}
 use Rattle.captures.specs.declared.errors.CapturesError.TheVariants.{Search, NoMemory, TooLarge as OverLimit}
-use Rattle.capi.specs.Compiled.{Regexed, config_by}
-use Rattle.capi.specs.Failures.{failure_of_captures}
+use Rattle.ffi_core.specs.Compiled.{Regexed, config_by}
+use Rattle.ffi_core.specs.Failures.{failure_of_captures}
 use Rattle.hanneddois.specs.Answers.{AnswersCapturesNext}
 
 -- the status of an error is above those of a call that succeeds

@@ -24,7 +24,7 @@ use Rattle.std.proofs.BoxSteps.Form.{R, τ}
 use Rattle.hanneddois.specs.Handles.{held}
 use Rattle.hanneddois.proofs.Boxed.{E}
 use Rattle.hanneddois.specs.contracts.handle.Handle as handle
-use Rattle.capi.specs.contracts.compiled.Compiled as regex
+use Rattle.ffi_core.specs.contracts.compiled.Compiled as regex
 
 abbrev pub one : Ptr → Val
 one p = vstruct (vcons (ptr_val p) vnil)

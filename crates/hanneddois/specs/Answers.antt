@@ -8,13 +8,13 @@ use Rattle.meta_regex.specs.declared.found_match.FoundMatch.{FoundMatch}
 use Rattle.captures.specs.Captures.{AreCaptured, AreFirstCaptured, HasCaptures}
 use Rattle.captures.specs.NextMatches.{AreNext, AreNextBegun, AreNextCaptured, IsFullOrLast}
 use Rattle.captures.specs.declared.errors.CapturesError.{CapturesError}
-use Rattle.capi.specs.Compiled.{Regexed, config_by, IsCallError}
-use Rattle.capi.specs.Failures.{failure_of_captures, failure_of_new, failure_of_search, without_cause}
-use Rattle.capi.specs.Groups.{IsGroupSearchError}
-use Rattle.capi.specs.Replacing.{IsReplacedInto, said_by}
-use Rattle.capi.specs.declared.failure.Failure.{Failure}
-use Rattle.capi.specs.declared.failure.NewError.{NewError}
-use Rattle.capi.specs.declared.options.Options.{Options}
+use Rattle.ffi_core.specs.Compiled.{Regexed, config_by, IsCallError}
+use Rattle.ffi_core.specs.Failures.{failure_of_captures, failure_of_new, failure_of_search, without_cause}
+use Rattle.ffi_core.specs.Groups.{IsGroupSearchError}
+use Rattle.ffi_core.specs.Replacing.{IsReplacedInto, said_by}
+use Rattle.ffi_core.specs.declared.failure.Failure.{Failure}
+use Rattle.ffi_core.specs.declared.failure.NewError.{NewError}
+use Rattle.ffi_core.specs.declared.options.Options.{Options}
 
 -- A status that isn't 0 says why no regex is made from these patterns. The cause for which a pattern is rejected is left open, since only
 -- messages depend on it.

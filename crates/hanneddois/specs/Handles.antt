@@ -6,7 +6,7 @@ use denote.RawPtr.{Ptr, null_ptr}
 use Rattle.std.specs.Box.Ownership.{box_owns}
 use Rattle.std.specs.declared.alloc.Global.{Global}
 use Rattle.std.specs.contracts.impls.GlobalAllocator.TheImpl.{ghosts}
-use Rattle.capi.specs.contracts.compiled.Compiled.{the_row}
+use Rattle.ffi_core.specs.contracts.compiled.Compiled.{the_row}
 use Rattle.stream_regex.specs.contracts.set.StreamSet.{the_row as the_set_row}
 
 -- A null pointer holds nothing. Any other pointer holds what a box of a compiled regex owns.

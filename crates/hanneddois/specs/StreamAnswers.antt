@@ -6,10 +6,10 @@ use Rattle.streams.specs.declared.stream.Stream.{Stream}
 use Rattle.streams.specs.declared.stream.StreamMatch.{StreamMatch}
 use Rattle.streams.specs.Streams.{fresh_stream}
 use Rattle.stream_regex.specs.Sets.{ChangesAt, ClosesAt, CopiesAt, FeedsAt, IsAdded, IsSameSet, SetValue}
-use Rattle.capi.specs.Failures.{plain}
-use Rattle.capi.specs.Streams.{IsStreamsFailure, failure_of_stream}
-use Rattle.capi.specs.declared.failure.Failure.{Failure}
-use Rattle.capi.specs.declared.options.Options.{Options}
+use Rattle.ffi_core.specs.Failures.{plain}
+use Rattle.ffi_core.specs.Streams.{IsStreamsFailure, failure_of_stream}
+use Rattle.ffi_core.specs.declared.failure.Failure.{Failure}
+use Rattle.ffi_core.specs.declared.options.Options.{Options}
 
 -- The handle held a set and holds one now, and this relation is between both. An empty handle stays empty.
 abbrev pub Becomes : Option SetValue → Option SetValue → (SetValue → SetValue → Type 0) → Type 0

@@ -1,11 +1,11 @@
 //! What a caller from C holds: nothing, or the memory of a compiled regex.
 ghost use Rattle.std.specs.Prelude.{◌≡◌, Some, None, Option};
 ghost use Rattle.std.specs.Option.{MatchOption};
-ghost use Rattle.capi.specs.Compiled.{Regexed};
+ghost use Rattle.ffi_core.specs.Compiled.{Regexed};
 ghost use Rattle.hanneddois.specs.Handles.{held, coded_held};
 
 use crate::apart::Apart;
-use capi::Compiled;
+use ffi_core::Compiled;
 use std::alloc::Global;
 use std::marker::Model;
 use std::mem;

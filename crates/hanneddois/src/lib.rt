@@ -1,4 +1,4 @@
-//! The library for C, C++, Rust and Python. Each call applies the corresponding function of [`capi`] to what a handle holds.
+//! The library for C, C++, Rust and Python. Each call applies the corresponding function of [`ffi_core`] to what a handle holds.
 //!
 //! The header, `capi/hanneddois.h`, documents the calls and what a caller has to guarantee. Its rules are those of Rust's types: a handle
 //! holds what its ghost field says, slices have the lengths that are passed with them, and a call has exclusive use of what it borrows.
@@ -13,15 +13,15 @@ mod stream_handle;
 ghost use Rattle.std.specs.Prelude.{◌≡◌, ◌≢◌, ◌⊎◌, ◌<◌, ◌≤◌, ◌*◌, Some, None, IfSome, IfOk, IfErr, false, length, nat_eq, replicate};
 ghost use Rattle.std.specs.Prelude.{if◌then◌else◌, nat_lt, true};
 ghost use Rattle.group_finder.specs.Slots.{no_offset};
-ghost use Rattle.capi.specs.Compiled.{IsMadeOf, IsCallError, are_arguments};
-ghost use Rattle.capi.specs.Failures.{plain};
-ghost use Rattle.capi.specs.Groups.{IsGroupCount, IsGroupName};
-ghost use Rattle.capi.specs.Texts.{cut};
+ghost use Rattle.ffi_core.specs.Compiled.{IsMadeOf, IsCallError, are_arguments};
+ghost use Rattle.ffi_core.specs.Failures.{plain};
+ghost use Rattle.ffi_core.specs.Groups.{IsGroupCount, IsGroupName};
+ghost use Rattle.ffi_core.specs.Texts.{cut};
 ghost use Rattle.hanneddois.specs.Answers.{AnswersIsMatch, AnswersFind, AnswersCaptures, AnswersAll, AnswersCapturesAll, AnswersCapturesNext, AnswersWhichMatch};
 ghost use Rattle.hanneddois.specs.Answers.{KeptNext, has_rows, AnswersReplace, FailsReplace, is_replaced, pattern_count_of};
 ghost use Rattle.hanneddois.specs.Answers.{RejectsNew, FailsSearch, FailsCaptures, FailsMatchingPatterns};
 
-use capi::{
+use ffi_core::{
     Compiled, Failure, FoundMatch, NO_OFFSET, NewError, Options, accepts, error_text, patterns_of,
 };
 use handle::Handle;

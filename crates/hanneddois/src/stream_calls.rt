@@ -4,16 +4,16 @@
 ghost use Rattle.std.specs.Prelude.{◌≡◌, ◌≢◌, ◌<◌, Some, None, IfSome, IfErr, IfOk, false};
 ghost use Rattle.stream_regex.specs.Sets.{IsNewSet};
 ghost use Rattle.streams.specs.Streams.{fresh_stream};
-ghost use Rattle.capi.specs.Compiled.{are_arguments};
-ghost use Rattle.capi.specs.Failures.{plain};
-ghost use Rattle.capi.specs.Streams.{IsStreamsFailure, stream_options_of};
-ghost use Rattle.capi.specs.Texts.{cut};
+ghost use Rattle.ffi_core.specs.Compiled.{are_arguments};
+ghost use Rattle.ffi_core.specs.Failures.{plain};
+ghost use Rattle.ffi_core.specs.Streams.{IsStreamsFailure, stream_options_of};
+ghost use Rattle.ffi_core.specs.Texts.{cut};
 ghost use Rattle.hanneddois.specs.StreamAnswers.{AnswersChange, AnswersClose, AnswersCopy, AnswersFeed, AnswersOpen, Becomes};
 ghost use Rattle.hanneddois.specs.StreamAnswers.{RejectsStreams, failure_of_outcome};
 
 use crate::stream_handle::StreamHandle;
 use crate::{BAD_ARGUMENT, NO_MEMORY, OK, end, refuse};
-use capi::{Failure, Options, accepts, streams_of};
+use ffi_core::{Failure, Options, accepts, streams_of};
 use std::alloc::Global;
 use stream_regex::StreamSet;
 use streams::{StreamError, StreamMatch};

@@ -1,7 +1,7 @@
 use Rattle.std.proofs.Common.{◌≡◌, ◌∙◌, ◌<◌, ℕ, arith, ap, sym}
-use Rattle.capi.specs.Failures.{without_cause}
-use Rattle.capi.specs.declared.failure.Failure.{Failure}
-use Rattle.capi.specs.declared.failure.NewError.TheVariants.{BadArgument}
+use Rattle.ffi_core.specs.Failures.{without_cause}
+use Rattle.ffi_core.specs.declared.failure.Failure.{Failure}
+use Rattle.ffi_core.specs.declared.failure.NewError.TheVariants.{BadArgument}
 use Rattle.hanneddois.proofs.hanneddois_new.Goals as goal
 
 pub returns-then-not-accepts-clause-refused : goal.returns-then-not-accepts-clause-refused

@@ -1,8 +1,8 @@
 use Rattle.std.proofs.Common.{ap, arith, subst}
 use Rattle.std.specs.Prelude.{IfErr}
 use Rattle.captures.specs.NextMatches.{AreNextBegun}
-use Rattle.capi.specs.Compiled.{config_by}
-use Rattle.capi.specs.declared.failure.Failure.{Failure}
+use Rattle.ffi_core.specs.Compiled.{config_by}
+use Rattle.ffi_core.specs.declared.failure.Failure.{Failure}
 use Rattle.hanneddois.proofs.FailureLemmas.{next_fails, status_is_error}
 use Rattle.hanneddois.proofs.next_matches.Goals as goal
 

@@ -1,6 +1,6 @@
 use Rattle.std.proofs.Common.{subst, sym}
-use Rattle.capi.specs.Streams.{IsStreamsFailure}
-use Rattle.capi.specs.declared.failure.Failure.{Failure}
+use Rattle.ffi_core.specs.Streams.{IsStreamsFailure}
+use Rattle.ffi_core.specs.declared.failure.Failure.{Failure}
 use Rattle.hanneddois.proofs.stream_calls.hanneddois_streams_new.Goals as goal
 
 pub returns-in-Err-clause-refused : goal.returns-in-Err-clause-refused

@@ -28,7 +28,7 @@ use Rattle.std.proofs.BoxSteps.Form.{D, R, τ, handle, word, box_typed}
 use Rattle.std.proofs.BoxSteps.Steps.{box_in}
 use Rattle.std.proofs.ResultValues.{and_tt}
 use Rattle.std.proofs.raw_atomic.Walks.{proved_at}
-use Rattle.capi.specs.contracts.compiled.Compiled as regex
+use Rattle.ffi_core.specs.contracts.compiled.Compiled as regex
 use Rattle.hanneddois.proofs.Boxed.{E, Parts, FromHandle, FromAlloc}
 use Rattle.hanneddois.proofs.HandleSteps.{one, handle_out, held_cases}
 use Rattle.hanneddois.specs.contracts.handle.Handle.into_apart.{ended, clauses}

@@ -20,7 +20,7 @@ use Rattle.std.specs.contracts.impls.GlobalAllocator.TheImpl.{ghosts}
 use Rattle.std.proofs.BoxSteps.Form.{D, B, word, box_typed}
 use Rattle.std.proofs.BoxSteps.Steps.{box_out}
 use Rattle.std.proofs.raw_atomic.Walks.{proved_at}
-use Rattle.capi.specs.contracts.compiled.Compiled as regex
+use Rattle.ffi_core.specs.contracts.compiled.Compiled as regex
 use Rattle.hanneddois.proofs.Boxed.{E, FromParts as From}
 use Rattle.hanneddois.proofs.HandleSteps.{one, handle_in}
 use Rattle.hanneddois.specs.contracts.handle.Handle.of_apart.{ended, clauses}
