@@ -157,8 +157,7 @@ fn push_next(
     requires known { KnowsNext task.flags.now progress.old.turn }
     requires past { ArePast task progress.old.first progress.old.at }
     ensures same { finder.new ≡ finder.old }
-    ensures on { OnOk result (progress.old.at < progress.new.at) }
-    ensures within { OnOk result (progress.new.at ≤ length task.entry.text.now) }
+    ensures on { OnOk result ((progress.old.at < progress.new.at) × (progress.new.at ≤ length task.entry.text.now)) }
     ensures known { OnOk result (KnowsNext task.entry.flags.now progress.new.turn) }
     ensures past { OnOk result (ArePast task.entry progress.new.first progress.new.at) }
     ensures written { OnOk result (progress.new.written ≡ progress.old.written) }

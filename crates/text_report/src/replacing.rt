@@ -142,8 +142,7 @@ fn report_next(
     requires known { KnowsNext task.flags.now progress.old.turn }
     requires begun { AreBegun task.task.found.now progress.old.first progress.old.at }
     ensures waits { OnOk result (Waits task.entry.task.what.now progress.new.telling.course) }
-    ensures on { OnOk result (progress.old.at < progress.new.at) }
-    ensures within { OnOk result (progress.new.at ≤ length task.entry.task.text.now) }
+    ensures on { OnOk result ((progress.old.at < progress.new.at) × (progress.new.at ≤ length task.entry.task.text.now)) }
     ensures known { OnOk result (KnowsNext task.entry.flags.now progress.new.turn) }
     ensures begun { OnOk result (AreBegun task.entry.task.found.now progress.new.first progress.new.at) }
     ensures written { OnOk result (progress.new.written ≡ progress.old.written) }

@@ -27,7 +27,7 @@ loop-progress-preserved g c =
     let more = c.push_next.new.out.items in
     record {
       same = c.in-Ok.ensures.same ∙ c.loop-progress.invariant.same;
-      within = c.in-Ok.ensures.within;
+      within = c.in-Ok.ensures.on.1;
       known = c.in-Ok.ensures.known;
       past = c.in-Ok.ensures.past;
       printed = then_printed t c.args.finder.now start now last c.args.out.now.items c.loop-progress.out.items more c.write_held.new.out.items
@@ -35,7 +35,7 @@ loop-progress-preserved g c =
           (record { at = q.at; first = q.first; turn = q.turn; counts = q.counts; written = c.write_held.new.written }) pr
           (c.in-Ok-write_held.ensures.held start (pr.are_held.done ++ more)
           (held_more t c.args.finder.now start now last c.args.out.now.items c.loop-progress.out.items more c.write_held.new.out.items
-          c.args.progress.now p q q pr c.in-Ok.ensures.written c.in-Ok.ensures.kept)) c.in-Ok.ensures.on refl refl refl
+          c.args.progress.now p q q pr c.in-Ok.ensures.written c.in-Ok.ensures.kept)) c.in-Ok.ensures.on.0 refl refl refl
           (subst (λ (s : Sought). (by : SearchesFor s true) → AreOrdered t → (before : List ℕ) →
           printed_left t (found_by by) p (printed (before ++ c.loop-progress.out.items) p.counts)
           ≡ printed_left t (found_by by) q (printed (before ++ more) q.counts)) c.loop-progress.invariant.same c.in-Ok.ensures.goes_on);
@@ -52,7 +52,7 @@ returns-in-Err-write_held-clause-fault g c by order time =
     let last = g.W.Write.contents c.write_held.new.writer in
     let more = c.push_next.new.out.items in
     cut_short t (found_by by) time c.args.progress.now q c.args.out.now.items (pr.are_held.done ++ more) start last
-    (λ _. omega (arith, c.in-Ok.ensures.on))
+    (λ _. omega (arith, c.in-Ok.ensures.on.0))
     (pr.goes_on by order
     ∙ ap (λ (l : List ℕ). printed_left t (found_by by) p (printed l p.counts)) pr.are_held.are
     ∙ subst (λ (s : Sought). (by : SearchesFor s true) → AreOrdered t → (before : List ℕ) →

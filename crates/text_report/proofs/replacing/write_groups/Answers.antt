@@ -25,7 +25,7 @@ loop-progress-preserved g c =
     let more = c.report_next.new.out.items in
     record {
       waits = c.in-Ok.ensures.waits;
-      within = c.in-Ok.ensures.within;
+      within = c.in-Ok.ensures.on.1;
       known = c.in-Ok.ensures.known;
       begun = c.in-Ok.ensures.begun;
       printed = λ order.
