@@ -107,15 +107,6 @@ module _ (config : Config) (texts : List (List ℕ)) (h : List ℕ) (from : ℕ)
       goes_on = it.goes_on;
     }
 
-    -- there are as many rows as before
-    pub as_many_rows : length rows ≡ length old
-    as_many_rows = ap length it.laid ∙ length_laid it.taken old
-
-    -- no match follows
-    pub none_next : (o : Option FoundMatch) → o ≡ None → HasFoundSpan config texts h at o → (room : ℕ) → IsFullOrLast config texts h room count at
-    none_next o none found room = inr (λ res read.
-        spanless (found_from config.utf8 (alt_all res) h at) (found res read ∙ ap (option_map span_of_row) none))
-
     -- the match that the matcher finds next
     module _ (o : Option FoundMatch) (f : FoundMatch) (some : o ≡ Some f) (found : HasFoundSpan config texts h at o) where
       next_is : (res : List Re) → AreReadAs config texts res →
@@ -169,19 +160,6 @@ module _ (config : Config) (texts : List (List ℕ)) (h : List ℕ) (from : ℕ)
           subst (λ (xs : List ℕ). AreFilled xs before now more)
           (sym (ap (rows_of width) (more_is res read) ∙ rows_more width (next_matches config res h from count) w.0))
           (writes res read (subst (λ (p : Option FoundMatch). IfSome p (λ r. IsOfFirstPattern res h (as_found r))) some (named res read)) w.0 w.2 there.0 there.1 (rows_of width (next_matches config res h from count)) before (filling res read))
-
--- the slots of the next match can't be found
-pub filling_stops : (config : Config) (texts : List (List ℕ)) (h : List ℕ) (from width count : ℕ) (old slots now : List ℕ) (filled : ℕ) →
-    AreNextFilled config texts h from width count old slots filled →
-    ((done before : List ℕ) → AreFilled done before slots filled → now ≡ overlaid (done ++ replicate width no_offset) before) →
-    AreNextBegun config texts h from width count old now
-filling_stops config texts h from width count old slots now filled filling cleared res read =
-    inr (cleared (rows_of width (next_matches config res h from count)) old (filling res read))
-
--- none are written after them
-pub filling_ends : (config : Config) (texts : List (List ℕ)) (h : List ℕ) (from width count : ℕ) (old slots : List ℕ) (filled : ℕ) →
-    AreNextFilled config texts h from width count old slots filled → AreNextCaptured config texts h from width count old slots
-filling_ends config texts h from width count old slots filled filling res read = (filling res read).laid
 
 pub filling_fails : (config : Config) (texts : List (List ℕ)) (h : List ℕ) (from width count : ℕ) (old slots : List ℕ) (filled : ℕ) →
     AreNextFilled config texts h from width count old slots filled → AreNextBegun config texts h from width count old slots

@@ -7,6 +7,7 @@ pub mod ListLemmas
 mod LoopLemmas
 pub mod NextLemmas
 mod OrderLemmas
+mod RoundLemmas
 mod RunLemmas
 mod PartLemmas
 mod SplittingLemmas

@@ -18,6 +18,7 @@ use Rattle.meta_regex.specs.declared.parts.Part.TheVariants.{Literal, Rounds, On
 use Rattle.meta_regex.specs.declared.splitting.Beginning.TheVariants.{Never, Empty}
 use Rattle.meta_regex.specs.declared.runs.Run.{Run}
 use Rattle.meta_regex.proofs.FirstByteLemmas.{byte_below, first_of_rest, rest_stands}
+use Rattle.meta_regex.proofs.RoundLemmas.{each_one}
 use Rattle.meta_regex.proofs.RunLemmas.{no_round}
 
 -- ---- trees with the same ends
@@ -97,10 +98,6 @@ puts_repetition least most body old new it =
       ends = λ looks h i. ap (λ (n : ℕ). repeated h n most true (preferred_ends looks h body) i) (sym it.least_is);
     })
     old new it.apart it.is
-
-each_one : (f : Ends) (xs : List ℕ) → ((k : ℕ) → f k ≡ k ∷ []) → flat_map f xs ≡ xs
-each_one f [] one = refl
-each_one f (x ∷ xs) one = ap (λ (l : List ℕ). l ++ flat_map f xs) (one x) ∙ ap (λ (l : List ℕ). x ∷ l) (each_one f xs one)
 
 pub puts_class : (x : Tree) (old new : List Part) → PutsRounds 1 (Some 1) x old new → PutsParts x old new
 puts_class x old new it =

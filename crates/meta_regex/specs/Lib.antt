@@ -4,6 +4,7 @@ pub mod Fallbacks
 pub mod FirstBytes
 pub mod Runs
 pub mod Parts
+pub mod Rounds
 pub mod Splitting
 pub mod Sequences
 pub mod Caches

@@ -19,6 +19,7 @@ mod matching_patterns;
 mod options;
 mod overlapping;
 mod parts;
+mod rounds;
 mod runs;
 mod searching;
 mod sequences;

@@ -10,6 +10,7 @@ ghost use Rattle.meta_regex.specs.FirstBytes.{may_begin};
 ghost use Rattle.meta_regex.specs.Runs.{AreRoundsOf, IsNextRun, IsRunOf, IsRunOfTrees, has_byte};
 
 use crate::first_bytes::{has_byte, has_char, may_be_empty, may_begin};
+use crate::rounds::rounds_of;
 use crate::searching::see_bytes;
 use hir_core::{Hir, HirKind};
 use search_core::ByteSet;
@@ -128,32 +129,16 @@ pub(crate) fn run_of_body(least: usize, body: &Hir) -> Option<Run>
 fn run_of(x: &Hir) -> Option<Run>
     ensures { IfSome result (λ r. IsRunOf r x.now) }
 {
-    let HirKind::Repetition {
-        min,
-        max,
-        greedy,
-        sub,
-    } = x.kind()
-    else {
+    let Some(rounds) = rounds_of(x) else {
         return None;
     };
-    if max.is_some() || !*greedy || *min == 0 {
+    if rounds.least == 0 {
         return None;
     }
-    let Some(run) = run_of_body(*min as usize, sub) else {
+    let Some(run) = run_of_body(rounds.least, rounds.body) else {
         return None;
     };
     Some(run)
-}
-
-/// The run that the tree is, or that its group is.
-fn run_of_group(x: &Hir) -> Option<Run>
-    ensures { IfSome result (λ r. IsRunOf r x.now) }
-{
-    match x.kind() {
-        HirKind::Capture { sub, .. } => run_of(sub),
-        _ => run_of(x),
-    }
 }
 
 /// The run that the only tree is, if there is one tree.
@@ -166,7 +151,7 @@ pub(crate) fn run_of_only(trees: &[Hir]) -> Option<Run>
     if !others.is_empty() {
         return None;
     }
-    let Some(run) = run_of_group(tree) else {
+    let Some(run) = run_of(tree) else {
         return None;
     };
     Some(run)
