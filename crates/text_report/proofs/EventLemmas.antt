@@ -139,24 +139,6 @@ near_far flags index next before known far =
     ∙ and_no (nat_lt (gap rest) (length rest)) (nat_lt (gap rest) before)
     (no_lt (gap rest) before (omega (arith, known, far)))
 
--- the role of a selected line, of one that is owed to the last selected line, and of another one
-pub role_selected : (b a left : ℕ) (all rest : List Bool) → all ≡ true ∷ rest → roles_from b a left all ≡ Selected ∷ roles_from b a a rest
-role_selected b a left all rest e = ap (roles_from b a left) e
-
-owed : (b a left : ℕ) (rest : List Bool) → 0 < left → roles_from b a left (false ∷ rest) ≡ Beside ∷ roles_from b a (left - 1) rest
-owed b a zero rest some = absurd (omega (arith, some))
-owed b a (suc left) rest some = ap (λ n. Beside ∷ roles_from b a n rest) (let e : left ≡ suc left - 1 = omega arith in e)
-
-pub role_owed : (b a left : ℕ) (all rest : List Bool) → all ≡ false ∷ rest → 0 < left →
-    roles_from b a left all ≡ Beside ∷ roles_from b a (left - 1) rest
-role_owed b a left all rest e some = ap (roles_from b a left) e ∙ owed b a left rest some
-
-pub role_free : (b a left : ℕ) (all rest : List Bool) → all ≡ false ∷ rest → left ≡ 0 →
-    roles_from b a left all ≡ (if any (take b rest) then Beside else Hidden) ∷ roles_from b a left rest
-role_free b a left all rest e none =
-    ap₂ (λ n it. roles_from b a n it) none e
-    ∙ sym (ap (λ n. (if any (take b rest) then Beside else Hidden) ∷ roles_from b a n rest) none)
-
 -- ---- items
 by_four : {X Y : Type 0} (F : ℕ → ℕ → X → Y → List ℕ) (n m p q : ℕ) (x y : X) (s t : Y) →
     n ≡ m → p ≡ q → x ≡ y → s ≡ t → F n p x s ≡ F m q y t
@@ -169,12 +151,6 @@ pub event_is : (w : OutputOptions) (name : List ℕ) (role : Role) (it : EventIt
 event_is w name role it number place bytes found e1 e2 e3 e4 =
     by_four (λ n p bs fs. as_line (lines_event name (event_kind role) (if w.numbers then Some n else None) p bs fs)) number it.number place
     it.place bytes it.bytes found (shown_found w role it.found) e1 e2 e3 e4
-
--- nothing is printed after the last item
-pub no_items : (w : OutputOptions) (name : List ℕ) (rs : List Role) (items : List EventItem) (p : Printed) → items ≡ [] →
-    with_events w name rs items p ≡ p
-no_items w name [] items p none = refl
-no_items w name (r ∷ rs) items p none = ap (λ it. with_events w name (r ∷ rs) it p) none
 
 pub flags_all : (w : OutputOptions) (f : LineMatcher) (text : List ℕ) (flags : List Bool) (n at : ℕ) → length text ≤ at →
     flags_of w f 0 (split_at w.terminator text) ≡ flags ++ flags_of w f n (split_at w.terminator (drop at text)) →

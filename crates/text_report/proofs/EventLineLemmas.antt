@@ -140,33 +140,6 @@ joined_step joins text g n a left old is first may sel =
     ∙ put_both joins (group_of text g) (group_of text n) (left (whole_end n.last)) may sel
     ∙ ap (λ (x : Group). put_lines joins (group_of text x) (left (whole_end x.last))) (sym is)
 
--- ---- one line
-pub line_group : (joins : Bool) (t : ℕ) (text : List ℕ) (rs0 rs : List Role) (role : Role) (n m at next : ℕ) (line : LineSpan) →
-    rs0 ≡ role ∷ rs → lines_from t text n at ≡ line_of text line ∷ lines_from t text (n + 1) next → m ≡ n + 1 →
-    event_lines joins rs0 (lines_from t text n at)
-    ≡ put_lines joins (one_line role (line_of text line)) (event_lines joins rs (lines_from t text m next))
-line_group joins t text rs0 rs role n m at next line first lines on =
-    ap₂ (λ r ls. event_lines joins r ls) first lines
-    ∙ ap (λ k. put_lines joins (one_line role (line_of text line)) (event_lines joins rs (lines_from t text k next))) (sym on)
-
--- whether the next line is selected
-abbrev first_flag : List Bool → Bool
-first_flag [] = false
-first_flag (b ∷ bs) = b
-
-beside_by : (b : Bool) → is_selected (if b then Beside else Hidden) ≡ false
-beside_by true = refl
-beside_by false = refl
-
-pub next_flag : (before after left : ℕ) (flags : List Bool) → starts_selected (roles_from before after left flags) ≡ first_flag flags
-next_flag before after left [] = refl
-next_flag before after left (true ∷ flags) = refl
-next_flag before after zero (false ∷ flags) = beside_by (any (take before flags))
-next_flag before after (suc left) (false ∷ flags) = refl
-
-flag_at : (flags : List Bool) (i : ℕ) → i < length flags → first_flag (drop i flags) ≡ get_or flags i false
-flag_at flags i low = ap first_flag (drop-cons flags i false low)
-
 -- ---- lines that are searched by themselves
 no_join : (a : EventLines) (bs : List EventLines) → put_lines false a bs ≡ a ∷ bs
 no_join a bs = put_alone false a bs refl

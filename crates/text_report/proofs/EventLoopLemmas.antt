@@ -85,12 +85,6 @@ some_by_text t f a found parts is ordered inside are =
     (are ∙ sym (ap₂ (λ e p. parts_between (map span_pair found.now) a.first.start e p) (ends_there t.text.now a.last ordered inside)
     (past_is t.text.now a.last ordered inside)))
 
-pub none_by_text : (t : EventTask) (f : LineMatcher) (a : Group) (parts : List (ℕ × ℕ)) → t.found ≡ None →
-    parts ≡ f.spans (group_of t.text.now a).first.content → parts ≡ (item_of t f (group_of t.text.now a)).found
-none_by_text t f a parts is are =
-    subst (λ (o : Option (Bor (List Span))). parts
-    ≡ (item_by (option_map (λ x. map span_pair x.now) o) f t.text.now (group_of t.text.now a)).found) (sym is) are
-
 -- ---- what was written after an error
 module _ (t : EventTask) (f : LineMatcher) where
   late_left : (p : EventProgress) → 0 < p.at → IsLate t.what.now t.name.now (item_of t f) (groups_left t p.turn p.at)

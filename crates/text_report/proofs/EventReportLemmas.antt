@@ -24,7 +24,7 @@ use Rattle.text_report.specs.Records.{records_of}
 use Rattle.text_report.specs.declared.events.Counts.{Counts}
 use Rattle.text_report.specs.declared.events.Item.{Item}
 use Rattle.text_report.specs.declared.lines.LineSpan.{LineSpan}
-use Rattle.text_report.proofs.EventLemmas.{event_is, no_items}
+use Rattle.text_report.proofs.EventLemmas.{event_is}
 use Rattle.text_report.proofs.LineLemmas.{none_from}
 
 -- ---- one item
@@ -70,23 +70,8 @@ past_is text line ordered inside =
 
 -- ---- the end of a text
 module _ (w : OutputOptions) (name : List ℕ) (time : Elapsed) (size : ℕ) (out : List ℕ) (c : Counts) (p : Printed) (is : printed out c ≡ p) where
-  none_printed : c.end ≡ 0 → nat_lt 0 p.counts.end ≡ false
-  none_printed none = ap (λ (q : Printed). nat_lt 0 q.counts.end) (sym is) ∙ ap (nat_lt 0) none
-
   some_printed : 0 < c.end → nat_lt 0 p.counts.end ≡ true
   some_printed some = ap (λ (q : Printed). nat_lt 0 q.counts.end) (sym is) ∙ lt-ltb 0 c.end some
-
-  pub none_ended : c.end ≡ 0 → [] ≡ ended_events w name time size p
-  none_ended none =
-      sym (ap (λ b. if b then p.bytes ++ as_line (end_event name (full_stats w time size p)) else []) (none_printed none))
-
-  pub none_counted : c.end ≡ 0 → no_stats ≡ stats_of w time size p
-  none_counted none = sym (ap (λ b. if b then full_stats w time size p else no_stats) (none_printed none))
-
-  pub some_counted : (s : Stats) → 0 < c.end → s ≡ full_stats w time size (printed out c) → s ≡ stats_of w time size p
-  some_counted s some e =
-      e ∙ ap (full_stats w time size) is
-      ∙ sym (ap (λ b. if b then full_stats w time size p else no_stats) (some_printed some))
 
   pub some_ended : (s : Stats) (new : List ℕ) → 0 < c.end → s ≡ full_stats w time size (printed out c) →
       new ≡ out ++ as_line (end_event name s) → new ≡ ended_events w name time size p
@@ -99,10 +84,3 @@ module _ (w : OutputOptions) (name : List ℕ) (time : Elapsed) (size : ℕ) (ou
 -- ---- what is written
 pub whole_part : (a b c : Option (List ℕ)) (out : List ℕ) → Appends a b out → Keeps b c → (n : ℕ) × Appends a c (take n out)
 whole_part a b c out written kept = (length out, subst (Appends a c) (sym (take-length out)) (appends_kept a b c out written kept))
-
-pub none_written : (a : Option (List ℕ)) (out : List ℕ) → (n : ℕ) × Appends a a (take n out)
-none_written a out = (0, Appends-nil a)
-
-pub part_of : (a b : Option (List ℕ)) (out whole : List ℕ) → out ≡ whole → (n : ℕ) × Appends a b (take n out) →
-    (n : ℕ) × Appends a b (take n whole)
-part_of a b out whole e part = (part.0, subst (λ bs. Appends a b (take part.0 bs)) e part.1)

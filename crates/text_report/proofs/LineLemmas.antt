@@ -177,11 +177,3 @@ module _ (t : ℕ) (text rest : List ℕ) (number start : ℕ) (within : start �
     split = alone_there;
     next = only;
   }
-
--- split at line feeds, a text has its lines
-pub split_at_ten : (text : List ℕ) → split_at 10 text ≡ split_lines text
-split_at_ten [] = refl
-split_at_ten (b ∷ bs) = ap (λ lines. if b == 10 then ended [] ∷ lines else put_first b lines) (split_at_ten bs)
-
-pub lines_of_text : (text : List ℕ) → lines_from 10 text 1 0 ≡ text_lines text
-lines_of_text text = ap (numbered 1 0) (split_at_ten text)

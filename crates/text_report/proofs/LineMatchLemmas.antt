@@ -31,11 +31,3 @@ none_left false y e = refl
 -- no line is selected once enough are
 pub not_selected : (w : OutputOptions) (n : ℕ) (has : Bool) → may_select w.most n ≡ false → false ≡ selects w n has
 not_selected w n has e = none_left (if w.invert then not has else has) (may_select w.most n) e
-
--- no match is shown of a line without marks
-pub none_shown : (w : OutputOptions) (role : Role) (found : List (ℕ × ℕ)) → has_marks w role ≡ false → [] ≡ shown_found w role found
-none_shown w role found e = sym (ap (λ b. if b then found else []) e)
-
-pub all_shown : (w : OutputOptions) (role : Role) (found spans : List (ℕ × ℕ)) → has_marks w role ≡ true → spans ≡ found →
-    spans ≡ shown_found w role found
-all_shown w role found spans e is = is ∙ sym (ap (λ b. if b then found else []) e)

@@ -29,10 +29,6 @@ pub one_reported : (reports : Progress → List SplitLine → List ℕ) (p q : P
     old ++ reports p now ≡ new ++ reports q later
 one_reported reports p q now later line old new split goes_on = ap (λ it. old ++ reports p it) split ∙ goes_on later
 
-pub one_counted : (counts : Progress → List SplitLine → ℕ) (p q : Progress) (now later : List SplitLine) (line : SplitLine) →
-    now ≡ line ∷ later → ((lines : List SplitLine) → counts q lines ≡ counts p (line ∷ lines)) → counts q later ≡ counts p now
-one_counted counts p q now later line split counted = counted later ∙ ap (counts p) (sym split)
-
 module _ (t : Task) (f : LineMatcher) where
   abbrev bytes : Progress → List SplitLine → List ℕ
   bytes p lines = reported_bytes t f p lines
@@ -40,9 +36,6 @@ module _ (t : Task) (f : LineMatcher) where
   -- nothing written yet
   pub none_begun : (p : Progress) (lines : List SplitLine) (w : Option (List ℕ)) → WritesBeginning t f p lines w w
   none_begun p lines w = (0, Appends-nil w)
-
-  pub none_sent : (p : Progress) (lines : List SplitLine) (w : Option (List ℕ)) → WritesLines t f p p lines lines w w
-  none_sent p lines w = record { sends = record { sent = []; written = Appends-nil w; is = refl }; counted = refl }
 
   -- the output of some lines, which was empty before
   whole_out : (p q : Progress) (x y : List SplitLine) (empty shown out : List ℕ) → empty ≡ [] → shown ≡ out →

@@ -58,9 +58,6 @@ module _ (t : TextTask) where
   pub reports_none : (p : TextProgress) (out : List ℕ) → AreBefore t.found.now p.at.first p.at.place → ReportsLines t p p out out
   reports_none p out before = record { printed = refl; counted = refl; are_before = before }
 
-  pub then_reports : (o p q : TextProgress) (x y z : List ℕ) → ReportsLines t o p x y → ReportsLines t p q y z → ReportsLines t o q x z
-  then_reports o p q x y z a b = record { printed = a.printed ∙ b.printed; counted = b.counted ∙ a.counted; are_before = b.are_before }
-
   pub reports_one : (o p : TextProgress) (line : LineSpan) (x y : List ℕ) → IsLineAt 10 t.text.now o.at.number o.at.place line →
       p.at.number ≡ line.number + 1 → p.at.place ≡ whole_end line → AreBefore t.found.now p.at.first line.start →
       ((lines : List TextLine) → x ++ reported_left t o.telling (line_of t.text.now line ∷ lines) ≡ y ++ reported_left t p.telling lines) →
@@ -80,16 +77,6 @@ module _ (t : TextTask) where
   -- ---- what was written
   pub writes_none : (p : TextProgress) (w : Option (List ℕ)) → AreBefore t.found.now p.at.first p.at.place → WritesTextLines t p p w w
   writes_none p w before = record { reported = []; written = Appends-nil w; printed = refl; counted = refl; are_before = before }
-
-  pub writes_out : (o p : TextProgress) (empty out all : List ℕ) (w v : Option (List ℕ)) → empty ≡ [] → all ≡ out →
-      ReportsLines t o p empty out → Appends w v all → WritesTextLines t o p w v
-  writes_out o p empty out all w v none same r written = record {
-    reported = out;
-    written = subst (Appends w v) same written;
-    printed = sym (ap (λ l. l ++ lasts o) none) ∙ r.printed;
-    counted = r.counted;
-    are_before = r.are_before;
-  }
 
   pub part_out : (o p : TextProgress) (empty out all : List ℕ) (w v : Option (List ℕ)) → empty ≡ [] → all ≡ out →
       ReportsLines t o p empty out → (n : ℕ) × Appends w v (take n all) → WritesPrefix t o w v

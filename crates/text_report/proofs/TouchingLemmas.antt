@@ -106,9 +106,6 @@ module _ (begun : Bool) (start end : ℕ) where
   pub none_has : (s : ℕ × ℕ) (found : List (ℕ × ℕ)) → end < s.0 → StartInOrder (s ∷ found) → list_any p (s ∷ found) ≡ false
   none_has s found less order = same_any p (s ∷ found) [] (none_after s found less order)
 
-  pub one_has : (s : ℕ × ℕ) (found : List (ℕ × ℕ)) → p s ≡ true → list_any p (s ∷ found) ≡ true
-  one_has s found e = any_one p s found true e
-
   pub other_has : (s : ℕ × ℕ) (found : List (ℕ × ℕ)) → p s ≡ false → list_any p (s ∷ found) ≡ list_any p found
   other_has s found e = any_one p s found false e
 

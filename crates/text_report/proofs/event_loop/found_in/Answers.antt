@@ -3,7 +3,7 @@ use Rattle.line_search.specs.LineMatchers.{span_pair}
 use Rattle.line_search.specs.Searchers.{found_by}
 use Rattle.text_report.specs.EventCourse.{group_of}
 use Rattle.text_report.specs.Touching.{AreBefore, StartInOrder}
-use Rattle.text_report.proofs.EventLoopLemmas.{given, none_by_text, some_by_text}
+use Rattle.text_report.proofs.EventLoopLemmas.{given, some_by_text}
 use Rattle.text_report.proofs.event_loop.found_in.Goals as goal
 
 pub returns-in-Ok-clause-found : goal.returns-in-Ok-clause-found
