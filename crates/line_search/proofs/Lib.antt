@@ -6,6 +6,7 @@ mod EdgeLemmas
 mod FallbackLemmas
 mod FeedLemmas
 pub mod FeedPlaceLemmas
+mod FewerWordLemmas
 pub mod ForCallers
 mod FoundSpanLemmas
 mod JoinedLemmas
