@@ -6,8 +6,8 @@ use Rattle.regex_syntax.specs.declared.Config.{Config}
 use Rattle.hir_core.specs.Facts.{LoopsRead}
 use Rattle.hir_core.specs.Tree.{Tree}
 use Rattle.search_types.specs.declared.match_kind.MatchKind.TheVariants.{LeftmostFirst}
-use Rattle.hirscan.specs.Built.{FailsBuild}
-use Rattle.hirscan.specs.Loops.{first_empty_loop}
+use Rattle.hir_regex.specs.Built.{FailsBuild}
+use Rattle.hir_regex.specs.Loops.{first_empty_loop}
 use Rattle.pattern_search.specs.Texts.{AllMean, IsFirstFault}
 use Rattle.meta_regex.specs.Regexes.{IsNoText}
 use Rattle.capi.specs.declared.failure.NewError.{NewError}

@@ -21,10 +21,10 @@ use Rattle.lazy_dfa.specs.HalfSearches.{half_search}
 use Rattle.lazy_dfa.specs.SearchAnswers.{Answers, half_of, reported}
 use Rattle.lazy_dfa.proofs.ForCallers.{never_among, scan_quits_near}
 use Rattle.regex_pair.specs.Pairs.{Pair, back_options}
-use Rattle.hirscan.specs.declared.settings.Settings.{Settings}
-use Rattle.hirscan.specs.Built.{IsBuilt, quit_bytes_for}
-use Rattle.hirscan.specs.Regexes.{IsRegexOf}
-use Rattle.hirscan.proofs.ForCallers.{both_built, dfa_is}
+use Rattle.hir_regex.specs.declared.settings.Settings.{Settings}
+use Rattle.hir_regex.specs.Built.{IsBuilt, quit_bytes_for}
+use Rattle.hir_regex.specs.Regexes.{IsRegexOf}
+use Rattle.hir_regex.proofs.ForCallers.{both_built, dfa_is}
 use Rattle.earliest_ends.specs.Earliest.{IsEarliest, IsEarliestEnd, IsEarliestError, earliest_search, looks_by}
 use Rattle.earliest_ends.proofs.SpanLemmas.{found_is_earliest, quit_is_before, never_unsupported}
 

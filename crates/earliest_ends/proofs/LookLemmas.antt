@@ -31,8 +31,8 @@ use Rattle.lazy_dfa.specs.HalfSearches.{first_offset}
 use Rattle.lazy_dfa.specs.HalfSearchLaws.{ReadsAlike}
 use Rattle.lazy_dfa.proofs.ForCallers.{supported_quits}
 use Rattle.regex_pair.specs.Pairs.{Pair}
-use Rattle.hirscan.specs.Regexes.{IsRegexOf}
-use Rattle.hirscan.proofs.ForCallers.{begins, passed_alike}
+use Rattle.hir_regex.specs.Regexes.{IsRegexOf}
+use Rattle.hir_regex.proofs.ForCallers.{begins, passed_alike}
 
 module _ (xs : List Tree) (t : Terminator) (p : Pair) (regex : IsRegexOf xs false t p) where
   abbrev a : Automaton

@@ -30,7 +30,7 @@ use Rattle.lazy_dfa.specs.HalfSearchLaws.{IsFound, IsFirstFound, IsSplitBy, IsWa
 use Rattle.lazy_dfa.specs.SearchAnswers.{HasReach, half_of}
 use Rattle.lazy_dfa.proofs.ForCallers.{scan_done, scan_finds, scan_has_reach, scan_mode_told, scan_quits_near}
 use Rattle.regex_pair.specs.Pairs.{Pair}
-use Rattle.hirscan.specs.Regexes.{IsRegexOf}
+use Rattle.hir_regex.specs.Regexes.{IsRegexOf}
 use Rattle.earliest_ends.specs.Earliest.{NoneEndsBefore, HasNoSpan, IsEarliest, IsLeastEnd, IsSpanFrom, earliest_search}
 use Rattle.earliest_ends.proofs.LookLemmas.{goes_forward, all_count, reads_alike, trees_alike}
 use Rattle.earliest_ends.proofs.PassLemmas.{none_scan, quit_scan, some_is_not_none}

@@ -11,9 +11,9 @@ use Rattle.search_types.specs.declared.match_error.MatchErrorKind.TheVariants.{U
 use Rattle.search_types.specs.Found.{HalfFound}
 use Rattle.search_types.specs.Inputs.{Search}
 use Rattle.lazy_dfa.specs.ConfigValue.{clears_of}
-use Rattle.hirscan.specs.declared.settings.Settings.{Settings}
-use Rattle.hirscan.specs.Built.{quit_bytes_for}
-use Rattle.hirscan.specs.Headline.{IsQuitNextTo}
+use Rattle.hir_regex.specs.declared.settings.Settings.{Settings}
+use Rattle.hir_regex.specs.Built.{quit_bytes_for}
+use Rattle.hir_regex.specs.Headline.{IsQuitNextTo}
 
 -- The tree with the number p matches the span from i to j of the haystack, with looks read so. The span starts at the offset s or
 -- later, and ends at e or before.

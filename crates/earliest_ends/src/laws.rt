@@ -13,12 +13,12 @@ ghost use Rattle.lazy_dfa.specs.Readers.{Reader, found, quit, unsupported};
 ghost use Rattle.lazy_dfa.specs.HalfSearches.{half_search};
 ghost use Rattle.lazy_dfa.specs.SearchAnswers.{Answers, half_of};
 ghost use Rattle.regex_pair.specs.Pairs.{Pair};
-ghost use Rattle.hirscan.specs.declared.settings.Settings.{Settings};
-ghost use Rattle.hirscan.specs.Built.{IsBuilt, FindsFirst};
-ghost use Rattle.hirscan.specs.Regexes.{IsRegexOf};
+ghost use Rattle.hir_regex.specs.declared.settings.Settings.{Settings};
+ghost use Rattle.hir_regex.specs.Built.{IsBuilt, FindsFirst};
+ghost use Rattle.hir_regex.specs.Regexes.{IsRegexOf};
 ghost use Rattle.earliest_ends.specs.Earliest.{NoneEndsBefore, IsEarliest, IsEarliestError, earliest_search, looks_by};
 
-use hirscan::headline::built_regexes_are_of_the_trees;
+use hir_regex::headline::built_regexes_are_of_the_trees;
 
 /// Take two automata that are compiled from the trees and not in UTF-8 mode. A search forward for the earliest end finds the least end
 /// of the spans that any of the trees matches, whichever starts first and whichever is preferred. If none of them matches a span, it

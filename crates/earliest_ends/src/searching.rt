@@ -4,8 +4,8 @@ ghost use Rattle.look_core.specs.Looks.{IsWordSet};
 ghost use Rattle.hir_core.specs.Tree.{Tree};
 ghost use Rattle.lazy_dfa.specs.SearchAnswers.{Answers};
 ghost use Rattle.regex_pair.specs.Pairs.{AreCachesOf};
-ghost use Rattle.hirscan.specs.declared.settings.Settings.{Settings};
-ghost use Rattle.hirscan.specs.Built.{IsBuilt, FindsFirst};
+ghost use Rattle.hir_regex.specs.declared.settings.Settings.{Settings};
+ghost use Rattle.hir_regex.specs.Built.{IsBuilt, FindsFirst};
 ghost use Rattle.earliest_ends.specs.Earliest.{IsEarliestEnd, IsEarliestError, earliest_search, looks_by};
 
 use crate::laws::calls_report_the_least_end;

@@ -15,8 +15,8 @@ use Rattle.hirscan.specs.declared.fault.FaultKind.{FaultKind}
 use Rattle.hirscan.specs.declared.fault.FaultKind.TheVariants.{NoFindLine}
 use Rattle.hirscan.specs.declared.fault.LineFault.{LineFault}
 use Rattle.hirscan.specs.declared.fault.LineFault.TheVariants as of_line
-use Rattle.hirscan.specs.declared.settings.Settings.{Settings}
-use Rattle.hirscan.specs.Built.{default_settings}
+use Rattle.hir_regex.specs.declared.settings.Settings.{Settings}
+use Rattle.hir_regex.specs.Built.{default_settings}
 use Rattle.hirscan.specs.Words.{words}
 use Rattle.hirscan.specs.QueryReports.{CutsLine, ReportsFault, ReportsLineFault, on_line}
 use Rattle.hirscan.specs.Takes.{QueryValue, at_first, Takes, EndsQuery}

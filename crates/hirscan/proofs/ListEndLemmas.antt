@@ -27,16 +27,14 @@ use Rattle.hirscan.specs.declared.line.Setup.{Setup}
 use Rattle.hirscan.specs.declared.ending.Ending.TheVariants.{Listed}
 use Rattle.hirscan.specs.declared.reply.Reply.{Reply}
 use Rattle.hirscan.specs.Asks.{mode_for, asked_search}
-use Rattle.hirscan.specs.Built.{IsBuilt, program_settings}
+use Rattle.hir_regex.specs.Built.{IsBuilt, program_settings}
 use Rattle.hirscan.specs.Listing.{IsSearched, ListsUpTo, MayEndList, ReportsQuit}
-use Rattle.hirscan.specs.Regexes.{IsSearchOf}
+use Rattle.hir_regex.specs.Regexes.{IsSearchOf}
 use Rattle.hirscan.specs.Reply.{AreAnswers, BeginsAnswers, IsSearchReply, listed, quits, QuitsAfter, finding_after, quit_line}
-use Rattle.hirscan.proofs.BuiltLemmas.{built_regex}
 use Rattle.hirscan.proofs.CauseLemmas.{is_search, loops_all_read, span_starts}
-use Rattle.hirscan.proofs.HeadlineLemmas.{taken_are_all, taken_begin}
-use Rattle.hirscan.proofs.SearchLemmas.{asked_at, refuses_by_first}
-use Rattle.hirscan.proofs.SureLemmas.{RefusesFrom, never_gives_up, never_no_pair, quits_forward, refusal_is_joined}
-use Rattle.hirscan.proofs.SureLemmas.{refused_from, supported_forward}
+use Rattle.hir_regex.proofs.ForCallers.{built_regex, taken_are_all, taken_begin, asked_at, refuses_by_first}
+use Rattle.hir_regex.proofs.ForCallers.{RefusesFrom, never_gives_up, never_no_pair, quits_forward, refusal_is_joined}
+use Rattle.hir_regex.proofs.ForCallers.{refused_from, supported_forward}
 
 -- ---- the errors of joined answers
 abbrev is_reported : MatchErrorKind → Bool

@@ -10,7 +10,7 @@ use Rattle.hirscan.specs.declared.fault.FaultKind.{FaultKind}
 use Rattle.hirscan.specs.declared.fault.FaultKind.TheVariants.{UnknownWord, SettingAfterNode, WrongWordCount, BadNumber, BadHex, BadRange}
 use Rattle.hirscan.specs.declared.fault.FaultKind.TheVariants.{UnknownLook, BadChoice, MinAboveMax, TooFewTrees, TooDeep, NotOneTree}
 use Rattle.hirscan.specs.declared.fault.FaultKind.TheVariants.{TreeLeftOver}
-use Rattle.hirscan.specs.declared.settings.Settings.{Settings}
+use Rattle.hir_regex.specs.declared.settings.Settings.{Settings}
 use Rattle.hirscan.specs.declared.words.LineWord.{LineWord}
 use Rattle.hirscan.specs.declared.words.LineWord.TheVariants.{Line, Capacity, Quit, Classes, Shrink, Look}
 use Rattle.hirscan.specs.Words.{words, class_ranges, scalar_ranges}

@@ -13,9 +13,9 @@ use Rattle.lazy_dfa.specs.ConfigValue.{by_hand}
 use Rattle.lazy_dfa.specs.declared.build_error.BuildError.{BuildError}
 use Rattle.lazy_dfa.specs.declared.build_error.BuildError.TheVariants.{NFA, NoMemory, Unsupported}
 use Rattle.hirscan.specs.declared.line.Setup.{Setup}
-use Rattle.hirscan.specs.declared.settings.Settings.{Settings}
-use Rattle.hirscan.specs.Built.{FailsBuild, not_compiled, unsupported, too_small, no_memory, are_unsupported, compile_options}
-use Rattle.hirscan.specs.Built.{program_settings, use_unicode_words}
+use Rattle.hir_regex.specs.declared.settings.Settings.{Settings}
+use Rattle.hir_regex.specs.Built.{FailsBuild, not_compiled, unsupported, too_small, no_memory, are_unsupported, compile_options}
+use Rattle.hir_regex.specs.Built.{program_settings, use_unicode_words}
 use Rattle.hirscan.specs.Reply.{AreTooLarge}
 
 -- words by characters are searched for as far as a search comes

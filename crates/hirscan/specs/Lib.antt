@@ -1,7 +1,4 @@
-pub mod Choices
-pub mod Loops
 pub mod Words
-pub mod Built
 pub mod Takes
 pub mod Readers
 pub mod LineFault
@@ -9,11 +6,6 @@ pub mod Reads
 pub mod QueryReports
 pub mod Rejections
 pub mod Asks
-pub mod Regexes
-pub mod Headline
-pub mod LooseAnswers
-pub mod OverlappingTrees
 pub mod Reply
 pub mod Listing
 pub mod Runs
-pub mod ReachLaws

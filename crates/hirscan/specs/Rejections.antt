@@ -1,13 +1,13 @@
 -- Why a query that was read is rejected together with the haystack after it: tests in the order of the errors.
-use Rattle.std.specs.Prelude.{ℕ, ◌+◌, ◌&&◌, Bool, true, false, not, nat_lt, nat_le, List, [], ◌∷◌, ◌++◌, length, Option, Some, None, codes}
-use Rattle.std.specs.Prelude.{decimal, option_map, if◌then◌else◌}
+use Rattle.std.specs.Prelude.{ℕ, ◌+◌, ◌&&◌, Bool, true, false, not, nat_le, List, [], ◌∷◌, ◌++◌, length, Option, Some, None, codes}
+use Rattle.std.specs.Prelude.{decimal, option_map}
 use Rattle.std.specs.List.{position}
-use Rattle.std.specs.Str.Lossy.{utf8_valid_len}
 use Rattle.search_types.specs.declared.span.Span.{Span}
 use Rattle.hir_core.specs.Tree.{Tree}
 use Rattle.hir_core.specs.Facts.{is_utf8_tree}
+use Rattle.hir_regex.specs.BrokenText.{first_broken}
 use Rattle.hirscan.specs.declared.line.Setup.{Setup}
-use Rattle.hirscan.specs.Loops.{first_empty_loop}
+use Rattle.hir_regex.specs.Loops.{first_empty_loop}
 
 -- the first cause that applies
 abbrev pub first_cause : List (Option (List ℕ)) → Option (List ℕ)
@@ -23,10 +23,6 @@ first_not_utf8 xs = position (λ x. not (is_utf8_tree x)) xs
 abbrev pub where_utf8 : Bool → Option ℕ → Option ℕ
 where_utf8 true found = found
 where_utf8 false found = None
-
--- how many bytes of the haystack are UTF-8 from its start on, if that isn't all of it
-abbrev pub first_broken : List ℕ → Option ℕ
-first_broken h = if nat_lt (utf8_valid_len h) (length h) then Some (utf8_valid_len h) else None
 
 -- the span that is searched
 abbrev pub span_of : Option Span → List ℕ → Span

@@ -19,8 +19,8 @@ use Rattle.hirscan.specs.declared.line.Setup.{Setup}
 use Rattle.hirscan.specs.declared.ending.Ending.{Ending}
 use Rattle.hirscan.specs.declared.ending.Ending.TheVariants.{Listed, Quit, Refused}
 use Rattle.hirscan.specs.Asks.{asked_search}
-use Rattle.hirscan.specs.Built.{IsBuilt, program_settings, compile_options, quit_bytes_for}
-use Rattle.hirscan.specs.Headline.{answers_to, IsQuitNextTo}
+use Rattle.hir_regex.specs.Built.{IsBuilt, program_settings, compile_options, quit_bytes_for}
+use Rattle.hir_regex.specs.Headline.{answers_to, IsQuitNextTo}
 use Rattle.hirscan.specs.Reads.{Reads, IsFaultAt}
 use Rattle.hirscan.specs.Rejections.{rejection}
 use Rattle.hirscan.specs.Takes.{QueryValue, at_first}

@@ -9,8 +9,8 @@ use Rattle.search_types.specs.declared.span.Span.{Span}
 use Rattle.lazy_dfa.specs.ConfigValue.{DfaOptions}
 use Rattle.lazy_dfa.specs.ConfigValue.{by_hand}
 use Rattle.hirscan.specs.declared.line.Setup.{Setup}
-use Rattle.hirscan.specs.declared.settings.Settings.{Settings}
-use Rattle.hirscan.specs.Built.{default_settings}
+use Rattle.hir_regex.specs.declared.settings.Settings.{Settings}
+use Rattle.hir_regex.specs.Built.{default_settings}
 use Rattle.hirscan.specs.Words.{IsNumber, IsBound, IsGreedy, IsSwitch, IsYes, IsHex, IsHexByte, IsLookName, AreItems, AreScalarItems}
 use Rattle.hirscan.specs.Words.{class_ranges, scalar_ranges}
 

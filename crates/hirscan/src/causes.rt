@@ -1,12 +1,13 @@
 // Why a query that was read is rejected with the haystack after it.
 ghost use Rattle.std.specs.Prelude.{◌≡◌, IfOk, option_map, string_bytes};
+ghost use Rattle.hir_regex.specs.BrokenText.{first_broken};
 ghost use Rattle.hirscan.specs.QueryReports.{value_of_query};
-ghost use Rattle.hirscan.specs.Rejections.{first_not_utf8, where_utf8, first_broken, span_of, is_span, pattern_causes, haystack_causes};
+ghost use Rattle.hirscan.specs.Rejections.{first_not_utf8, where_utf8, span_of, is_span, pattern_causes, haystack_causes};
 ghost use Rattle.hirscan.specs.Rejections.{rejection};
 
 use crate::head::Head;
-use crate::loops::first_empty_loop;
 use hir_core::Hir;
+use hir_regex::{first_broken, first_empty_loop};
 use search_types::Span;
 use std::alloc::{AllocError, Global};
 
@@ -15,17 +16,6 @@ fn first_not_utf8(patterns: &[Hir]) -> Option<usize>
     ensures { result ≡ first_not_utf8 patterns.now }
 {
     patterns.iter().position(|x| !x.properties().is_utf8())
-}
-
-/// How many bytes of the haystack are UTF-8 from its start on, or `None` if all are.
-#[tactic(auto, using(crate::proofs::CauseLemmas::whole_text, crate::proofs::CauseLemmas::broken_text))]
-pub(crate) fn first_broken(h: &[u8]) -> Option<usize>
-    ensures { result ≡ first_broken h.now }
-{
-    match str::from_utf8(h) {
-        Ok(_) => None,
-        Err(e) => Some(e.valid_up_to()),
-    }
 }
 
 /// Whether the part of the haystack that is searched fits.

@@ -6,9 +6,9 @@ ghost use Rattle.hirscan.specs.QueryReports.{ReportsFault, CutsLine, value_of_qu
 
 use crate::fault::{Fault, FaultKind};
 use crate::line::{HeadState, Setup, Step, read_line};
-use crate::settings::Settings;
 use crate::split::offset_of;
 use hir_core::Hir;
+use hir_regex::Settings;
 use search_types::Span;
 use std::alloc::Global;
 

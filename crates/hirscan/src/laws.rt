@@ -1,44 +1,15 @@
-//! Laws of the answers and of the reply. Each function has no code: its contract is the law.
-//! ```rust
-//! pub fn answers_rise()
-//!     ensures { (q : Query) (s : ℕ) → EndsRise None (answers_of q s) }
-//! {
-//!     ends_of_answers_rise();
-//! }
-//! ```
-ghost use Rattle.std.specs.Prelude.{◌≡◌, ◌⊎◌, ◌≤◌, ◌+◌, ◌-◌, ℕ, true, All, length, slice_get, List, Some, None};
+//! Laws of the reply, and those of answers, which `hir_regex` has. Each function has no code: its contract is the law.
+ghost use Rattle.std.specs.Prelude.{◌≡◌, ◌⊎◌, ℕ, List};
 ghost use Rattle.hir_core.specs.Tree.{Tree};
-ghost use Rattle.hir_core.specs.Means.{Means};
-ghost use Rattle.hir_core.specs.Facts.{LoopsRead};
-ghost use Rattle.search_types.specs.AllAnswers.{AnswersWithin, EndsRise};
-ghost use Rattle.search_types.specs.Found.{Found};
-ghost use Rattle.search_types.specs.Places.{counts};
 ghost use Rattle.hirscan.specs.declared.ending.Ending.{Ending};
-ghost use Rattle.hirscan.specs.Choices.{Query, answer_from, answers_of};
-ghost use Rattle.hirscan.specs.Loops.{loops_read};
 ghost use Rattle.hirscan.specs.declared.line.Setup.{Setup};
 ghost use Rattle.hirscan.specs.declared.ending.Ending.TheVariants.{Listed, Refused};
 ghost use Rattle.hirscan.specs.Reply.{Asks, IsInputRejected, IsReply, error_line};
 
-/// An answer over trees is a span that the tree of its number means.
-#[tactic(auto, using(crate::proofs::AnswerLemmas::answer_is_meant))]
-pub fn an_answer_is_meant()
-    ensures { (q : Query) (s : ℕ) (f : Found) → answer_from q s ≡ Some f →
-        (x : Tree) × (slice_get q.patterns f.pattern ≡ Some x) × Means q.looks q.haystack x f.start f.end }
-{}
-
-/// Answers start at or after the offset that is asked for, and end between their start and the end of what is searched.
-#[tactic(auto, using(crate::proofs::AnswerLemmas::answers_within))]
-pub fn answers_over_trees_stay_within()
-    ensures { (q : Query) → AnswersWithin (answer_from q) q.end }
-{}
-
-/// The test for repetitions returns whether the body of every unbounded one consumes at least one byte.
-#[tactic(auto, using(crate::proofs::LoopLemmas::loops_read_sound, crate::proofs::LoopLemmas::loops_read_complete))]
-pub fn loops_read_tells()
-    ensures sound { (x : Tree) → loops_read x ≡ true → LoopsRead x }
-    ensures complete { (x : Tree) → LoopsRead x → loops_read x ≡ true }
-{}
+pub use hir_regex::laws::{
+    an_answer_is_meant, answers_over_trees_stay_within, answers_start_and_end_where_it_counts,
+    ends_of_answers_rise, loops_read_tells,
+};
 
 /// An input is rejected for what shows in it, or asks for a search. A rejected input has that reply alone. An input whose matches
 /// are all listed has no other list.
@@ -48,19 +19,4 @@ pub fn replies_agree()
     ensures refused { (input cause : List ℕ) (e : Ending) (t : List ℕ) → IsInputRejected input cause → IsReply input e t →
         (e ≡ Refused) × (t ≡ error_line cause) }
     ensures listed { (input s t : List ℕ) → IsReply input Listed s → IsReply input Listed t → s ≡ t }
-{}
-
-/// The ends of all answers rise, so there is at most one answer for each offset.
-#[tactic(auto, using(crate::proofs::AnswerLemmas::answers_rise, crate::proofs::AnswerLemmas::few_answers))]
-pub fn ends_of_answers_rise()
-    ensures ends { (q : Query) (s : ℕ) → EndsRise None (answers_of q s) }
-    ensures few { (q : Query) (s : ℕ) → length (answers_of q s) ≤ q.end + 1 - s }
-{}
-
-/// In UTF-8 mode no answer starts or ends inside a character.
-pub fn answers_start_and_end_where_it_counts()
-    ensures one { (q : Query) (s : ℕ) (f : Found) → answer_from q s ≡ Some f →
-        (counts q.utf8 q.haystack f.start ≡ true) × (counts q.utf8 q.haystack f.end ≡ true) }
-    ensures all { (q : Query) (s : ℕ) →
-        All (λ f. (counts q.utf8 q.haystack f.start ≡ true) × (counts q.utf8 q.haystack f.end ≡ true)) (answers_of q s) }
 {}

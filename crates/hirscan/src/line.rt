@@ -16,13 +16,13 @@ ghost use Rattle.hirscan.specs.declared.words.LineWord.TheVariants.{Span as Span
 ghost use Rattle.hirscan.specs.declared.words.LineWord.TheVariants.{Pattern, Find};
 
 use crate::fault::{FaultKind, LineFault};
-use crate::settings::Settings;
 use crate::split::WordsLeft;
 use crate::words::{
     LineWord, bound, class_ranges, hex_byte, hex_bytes, line_word, look_named, low_ends, number,
     order, scalar_items, scalar_ranges, switch, word_at, yes_or_no,
 };
 use hir_core::Hir;
+use hir_regex::Settings;
 use look_core::LineTerm;
 use search_types::Span;
 use std::alloc::{AllocError, Global};

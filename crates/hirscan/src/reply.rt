@@ -4,17 +4,16 @@ ghost use Rattle.hirscan.specs.Rejections.{span_of, is_span};
 ghost use Rattle.hirscan.specs.Asks.{asked_search};
 ghost use Rattle.hirscan.specs.QueryReports.{value_of_query};
 ghost use Rattle.search_core.specs.Index.{greatest_index};
-ghost use Rattle.hirscan.specs.Built.{IsBuilt, program_settings};
+ghost use Rattle.hir_regex.specs.Built.{IsBuilt, program_settings};
 ghost use Rattle.regex_pair.specs.Pairs.{AreCachesOf};
 ghost use Rattle.hirscan.specs.Listing.{IsSearched, MayEndList, ReportsQuit};
 ghost use Rattle.hirscan.specs.Reply.{IsReply, IsSearchReply, AnswersQuery, AreTooLarge, span_line, span_lines, quit_line, error_line};
 
-use crate::building::build;
 use crate::causes::refusal_cause;
 use crate::ending::Ending;
 use crate::fault::Fault;
 use crate::head::{Head, read_head};
-use crate::settings::program_settings;
+use hir_regex::{build, program_settings, see_bytes};
 use lazy_dfa::BuildError;
 use regex_pair::regex::{Cache, Regex};
 use search_types::{Anchored, Input, Match, MatchError, MatchErrorKind};
@@ -92,11 +91,6 @@ fn failed_reply(alloc: Global, text: String, e: MatchError) -> Result<Reply, All
         _ => unreachable!(),
     }
 }
-
-/// A haystack consists of bytes.
-pub(crate) fn see_bytes(bytes: &[u8])
-    ensures { All (λ byte. byte < 256) bytes.now }
-{}
 
 /// The reply of a search over the regex of the query's patterns: a line for each match, up to where the search gives up.
 fn list_matches(

@@ -23,8 +23,8 @@ use Rattle.hir_core.specs.Means.{Means}
 use Rattle.hir_core.proofs.ForCallers.{span_forward}
 use Rattle.line_trees.specs.LineTrees.{line_tree, has_crlf, reads_feed, block_of, line_looks, HasNoFeedFrom}
 use Rattle.line_trees.specs.WordlessTrees.{wordless_tree}
-use Rattle.hirscan.specs.Choices.{answer_from}
-use Rattle.hirscan.specs.LooseAnswers.{IsLooseAnswer}
+use Rattle.hir_regex.specs.Choices.{answer_from}
+use Rattle.hir_regex.specs.LooseAnswers.{IsLooseAnswer}
 use Rattle.line_trees.proofs.ForCallers.{means_in_block, means_in_line, reads_none, feeds_kept, get_dropped}
 use Rattle.line_trees.proofs.ForCallers.{means_wordless, returns_wordless}
 use Rattle.earliest_ends.specs.Earliest.{IsSpanFrom, NoneEndsBefore, IsEarliestEnd, IsEarliestError, looks_by}

@@ -3,8 +3,8 @@ use Rattle.std.proofs.Common.{◌≡◌, ℕ, Bool, true, List, Option, Some, No
 use Rattle.std.specs.Prelude.{IfSome}
 use Rattle.hir_core.specs.Facts.{LoopsRead}
 use Rattle.hir_core.specs.Tree.{Tree}
-use Rattle.hirscan.specs.Loops.{first_empty_loop}
-use Rattle.hirscan.proofs.ForCallers.{all_of_none}
+use Rattle.hir_regex.specs.Loops.{first_empty_loop}
+use Rattle.hir_regex.proofs.ForCallers.{all_of_none}
 use Rattle.pattern_search.specs.Texts.{AllMean}
 use Rattle.line_search.specs.BoundedTrees.{IsTreeOf, bounded_tree}
 use Rattle.line_search.specs.Joined.{joined}

@@ -6,8 +6,8 @@ use Rattle.lazy_dfa.specs.Building.{built}
 use Rattle.lazy_dfa.specs.ConfigValue.{DfaOptions, changed_dfa_options}
 use Rattle.lazy_dfa.specs.Dfas.{Dfa, IsDfa}
 use Rattle.regex_pair.specs.Pairs.{Pair, back_options, pair_built}
-use Rattle.hirscan.specs.Built.{compile_options}
-use Rattle.hirscan.proofs.ForCallers.{both_built, dfa_is, dfa_ok, pair_ok}
+use Rattle.hir_regex.specs.Built.{compile_options}
+use Rattle.hir_regex.proofs.ForCallers.{both_built, dfa_is, dfa_ok, pair_ok}
 use Rattle.line_search.specs.Searchers.{IsResized, line_settings, sized_settings}
 
 -- the options of automata with this capacity

@@ -10,8 +10,8 @@ use Rattle.search_types.specs.Found.{Found}
 use Rattle.regex_pair.specs.Pairs.{Pair, PairCache}
 use Rattle.regex_pair.specs.PairAnswers.{AnswersPair}
 use Rattle.regex_pair.specs.Taken.{IsWholeList}
-use Rattle.hirscan.specs.Built.{IsBuilt}
-use Rattle.hirscan.specs.Regexes.{IsSearchOf}
+use Rattle.hir_regex.specs.Built.{IsBuilt}
+use Rattle.hir_regex.specs.Regexes.{IsSearchOf}
 use Rattle.pattern_search.specs.Searches.{whole_search}
 use Rattle.pattern_text.specs.SameEnds.{AreSameEnds, AreSameSpans}
 use Rattle.pattern_search.specs.RegexAnswers.{AnswersAsRead}

@@ -10,8 +10,8 @@ use Rattle.hir_core.specs.Tree.{Tree}
 use Rattle.line_trees.specs.LineTrees.{line_tree, has_crlf, reads_feed, HasNoFeedFrom}
 use Rattle.line_trees.specs.WordlessTrees.{wordless_tree}
 use Rattle.regex_pair.specs.Pairs.{Pair}
-use Rattle.hirscan.specs.Built.{IsBuilt, quit_bytes_for}
-use Rattle.hirscan.specs.Headline.{IsQuitNextTo}
+use Rattle.hir_regex.specs.Built.{IsBuilt, quit_bytes_for}
+use Rattle.hir_regex.specs.Headline.{IsQuitNextTo}
 use Rattle.earliest_ends.specs.Earliest.{HasNoSpan, NoneEndsBefore, IsLeastEnd, earliest_search, looks_by}
 use Rattle.pattern_search.specs.Texts.{AreReadAs}
 use Rattle.line_search.specs.BoundedTrees.{IsTreeForLines}

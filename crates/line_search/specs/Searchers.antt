@@ -8,9 +8,9 @@ use Rattle.search_types.specs.declared.match_error.MatchErrorKind.{MatchErrorKin
 use Rattle.search_types.specs.declared.match_error.MatchErrorKind.TheVariants.{NoMemory as LacksMemory}
 use Rattle.regex_pair.specs.PairAnswers.{AnswersPair}
 use Rattle.regex_pair.specs.Pairs.{Pair, PairCache}
-use Rattle.hirscan.specs.declared.settings.Settings.{Settings}
-use Rattle.hirscan.specs.Built.{IsBuilt, FailsBuild, default_settings, program_settings}
-use Rattle.hirscan.specs.Loops.{first_empty_loop}
+use Rattle.hir_regex.specs.declared.settings.Settings.{Settings}
+use Rattle.hir_regex.specs.Built.{IsBuilt, FailsBuild, default_settings, program_settings}
+use Rattle.hir_regex.specs.Loops.{first_empty_loop}
 use Rattle.pattern_search.specs.Searches.{whole_search}
 use Rattle.pattern_search.specs.Texts.{AllMean, AreReadAs, IsFirstFault}
 use Rattle.line_search.specs.BoundedTrees.{IsTreeAskedFor, IsTreeForLines}

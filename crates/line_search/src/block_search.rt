@@ -1,6 +1,6 @@
 //! Searches blocks of lines by automata whose caches grow.
 ghost use Rattle.std.specs.Prelude.{◌≡◌, ◌≤◌, ◌∷◌, [], IfOk, IfSome, length};
-ghost use Rattle.hirscan.specs.Built.{IsBuilt};
+ghost use Rattle.hir_regex.specs.Built.{IsBuilt};
 ghost use Rattle.line_search.specs.BoundedTrees.{IsTreeForLines};
 ghost use Rattle.line_search.specs.Candidates.{IsCandidatesOf, IsLineStart, IsNextLine};
 ghost use Rattle.line_search.specs.Searchers.{line_settings};

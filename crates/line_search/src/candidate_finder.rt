@@ -1,6 +1,6 @@
 //! Finds the lines of blocks that may have a match, in inputs of any script.
 ghost use Rattle.std.specs.Prelude.{◌≡◌, ◌≤◌, ◌∷◌, [], IfOk, length};
-ghost use Rattle.hirscan.specs.Built.{IsBuilt};
+ghost use Rattle.hir_regex.specs.Built.{IsBuilt};
 ghost use Rattle.line_search.specs.BoundedTrees.{IsTreeForLines};
 ghost use Rattle.line_search.specs.Candidates.{IsLineStart, IsNextLine};
 ghost use Rattle.line_search.specs.Searchers.{line_settings};

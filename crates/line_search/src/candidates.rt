@@ -4,7 +4,7 @@ ghost use Rattle.std.specs.Prelude.{is_some, not, slice_range};
 ghost use Rattle.std.specs.Prelude.{true, Option, Some, IfErr, IfOk, IfSome, false};
 ghost use Rattle.hir_core.specs.Tree.{Tree};
 ghost use Rattle.line_trees.specs.LineTrees.{line_tree, has_crlf, HasNoFeedFrom};
-ghost use Rattle.hirscan.specs.Built.{IsBuilt, FailsBuild};
+ghost use Rattle.hir_regex.specs.Built.{IsBuilt, FailsBuild};
 ghost use Rattle.ucd_perl.specs.Perl.{is_word_char};
 ghost use Rattle.earliest_ends.specs.Earliest.{IsEarliestEnd, IsEarliestError, looks_by};
 ghost use Rattle.line_search.specs.BoundedTrees.{IsTreeForLines};

@@ -11,7 +11,7 @@ use crate::patterns::PatternOptions;
 use crate::plain_patterns::parse_each;
 use crate::searcher::SearcherError;
 use hir_core::Hir;
-use hirscan::first_empty_loop;
+use hir_regex::first_empty_loop;
 use lazy_dfa::BuildError;
 use pattern_search::PatternError;
 use std::alloc::{AllocError, Global};
@@ -34,7 +34,7 @@ impl<'t> Model for ParsedPatterns<'t> {
     ghost use Rattle.std.specs.Prelude.{◌≡◌, ℕ, List, IfSome, None, Some, map};
     ghost use Rattle.hir_core.specs.Facts.{LoopsRead};
     ghost use Rattle.hir_core.specs.Tree.{Tree};
-    ghost use Rattle.hirscan.specs.Loops.{first_empty_loop};
+    ghost use Rattle.hir_regex.specs.Loops.{first_empty_loop};
     ghost use Rattle.pattern_search.specs.Texts.{AllMean, IsFirstFault};
     ghost use Rattle.line_search.specs.BoundedTrees.{IsTreeOf};
     ghost use Rattle.line_search.specs.Meant.{line_config};

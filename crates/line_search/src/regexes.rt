@@ -2,11 +2,11 @@
 ghost use Rattle.std.specs.Prelude.{◌≡◌, ◌∷◌, [], IfErr, IfOk, IfSome, Some};
 ghost use Rattle.lazy_dfa.specs.Dfas.{IsDfa};
 ghost use Rattle.lazy_dfa.specs.declared.build_error.BuildError.TheVariants.{NoMemory};
-ghost use Rattle.hirscan.specs.Built.{IsBuilt, FailsBuild};
+ghost use Rattle.hir_regex.specs.Built.{IsBuilt, FailsBuild};
 ghost use Rattle.line_search.specs.Searchers.{IsResized, line_settings, sized_settings};
 
 use hir_core::Hir;
-use hirscan::{Settings, build, program_settings};
+use hir_regex::{Settings, build, program_settings};
 use lazy_dfa::BuildError;
 use lazy_dfa::dfa::Config;
 use regex_pair::regex::{Builder, Regex};

@@ -1,7 +1,7 @@
 //! Searches lines for patterns by automata.
 ghost use Rattle.std.specs.Prelude.{◌≡◌, ◌<◌, ◌≤◌, ◌∷◌, [], ℕ, List, All, IfErr, IfOk, IfSome, length, map, option_map};
 ghost use Rattle.hir_core.specs.Facts.{LoopsRead};
-ghost use Rattle.hirscan.specs.Built.{IsBuilt, FailsBuild};
+ghost use Rattle.hir_regex.specs.Built.{IsBuilt, FailsBuild};
 ghost use Rattle.pattern_search.specs.Searches.{span_of_found, whole_search};
 ghost use Rattle.line_search.specs.BoundedTrees.{IsTreeOf};
 ghost use Rattle.line_search.specs.FoundSpans.{IsFoundSpan};
@@ -12,7 +12,7 @@ ghost use Rattle.line_search.specs.Searchers.{IsSearcherOf, IsMatchReported, Are
 use crate::listing::{list, spans_of};
 use crate::regexes::{regex_of, resized};
 use hir_core::Hir;
-use hirscan::find;
+use hir_regex::find;
 use lazy_dfa::BuildError;
 use pattern_search::PatternError;
 use pattern_search::regex_laws::regexes_answer_what_patterns_say;

@@ -19,10 +19,10 @@ use Rattle.search_types.specs.declared.match_kind.MatchKind.TheVariants.{Leftmos
 use Rattle.search_types.specs.Found.{Found}
 use Rattle.search_types.specs.LeftmostAnswer.{first_choice, leftmost}
 use Rattle.search_types.proofs.ForCallers.{starts_at, may_start_at}
-use Rattle.hirscan.specs.Choices.{Query, answer_from, choices_at}
-use Rattle.hirscan.specs.Headline.{answer_to, query_by}
-use Rattle.hirscan.specs.LooseAnswers.{IsCounted, IsLoose, IsLooseAnswer}
-use Rattle.hirscan.specs.Regexes.{IsSearchOf, query_of}
+use Rattle.hir_regex.specs.Choices.{Query, answer_from, choices_at}
+use Rattle.hir_regex.specs.Headline.{answer_to, query_by}
+use Rattle.hir_regex.specs.LooseAnswers.{IsCounted, IsLoose, IsLooseAnswer}
+use Rattle.hir_regex.specs.Regexes.{IsSearchOf, query_of}
 use Rattle.pattern_text.specs.SameEnds.{pattern_looks}
 use Rattle.regex_pair.specs.Pairs.{Pair}
 use Rattle.pattern_search.specs.Searches.{found_from, whole_query, whole_search, span_of_match, span_of_found, IsOfFirstPattern}

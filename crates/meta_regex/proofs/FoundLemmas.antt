@@ -19,9 +19,9 @@ use Rattle.lazy_dfa.specs.ConfigValue.{kind_of}
 use Rattle.lazy_dfa.specs.OverlappingAnswers.{AnswersWhich}
 use Rattle.regex_pair.specs.Pairs.{Pair, PairCache}
 use Rattle.regex_pair.specs.PairAnswers.{AnswersPair}
-use Rattle.hirscan.specs.declared.settings.Settings.{Settings}
-use Rattle.hirscan.specs.Built.{IsBuilt, FindsFirst}
-use Rattle.hirscan.specs.Regexes.{IsSearchOf}
+use Rattle.hir_regex.specs.declared.settings.Settings.{Settings}
+use Rattle.hir_regex.specs.Built.{IsBuilt, FindsFirst}
+use Rattle.hir_regex.specs.Regexes.{IsSearchOf}
 use Rattle.pattern_search.specs.Searches.{whole_search, found_from, which_match, span_of_match, span_of_found, IsOfFirstPattern}
 use Rattle.pattern_search.specs.Texts.{AreReadAs, AllMean}
 use Rattle.pattern_search.specs.Written.{AnswersWhatIsWritten}

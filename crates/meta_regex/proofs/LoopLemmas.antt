@@ -2,8 +2,8 @@
 use Rattle.std.proofs.Common.{◌≡◌, ℕ, Bool, false, List, All, Option, Some, None, IfNone, sym}
 use Rattle.hir_core.specs.Facts.{LoopsRead}
 use Rattle.hir_core.specs.Tree.{Tree}
-use Rattle.hirscan.specs.Loops.{first_empty_loop}
-use Rattle.hirscan.proofs.ForCallers.{all_of_none}
+use Rattle.hir_regex.specs.Loops.{first_empty_loop}
+use Rattle.hir_regex.proofs.ForCallers.{all_of_none}
 
 pub none_refused : (xs : List Tree) (allows : Bool) (o : Option ℕ) → o ≡ first_empty_loop xs →
     IfNone o (allows ≡ false → All LoopsRead xs)

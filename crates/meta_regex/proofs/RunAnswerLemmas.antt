@@ -15,9 +15,9 @@ use Rattle.literal_search.specs.Searches.{IsNextStart}
 use Rattle.search_types.specs.Found.{Found}
 use Rattle.search_types.specs.LeftmostAnswer.{first_choice, leftmost}
 use Rattle.search_types.specs.Places.{counts}
-use Rattle.hirscan.specs.Choices.{Query, answer_from, choices_at, may_end}
-use Rattle.hirscan.specs.LooseAnswers.{IsLooseAnswer}
-use Rattle.hirscan.specs.Regexes.{IsSearchOf}
+use Rattle.hir_regex.specs.Choices.{Query, answer_from, choices_at, may_end}
+use Rattle.hir_regex.specs.LooseAnswers.{IsLooseAnswer}
+use Rattle.hir_regex.specs.Regexes.{IsSearchOf}
 use Rattle.pattern_text.specs.SameEnds.{pattern_looks}
 use Rattle.pattern_search.specs.Searches.{IsOfFirstPattern, found_from, span_of_found, span_of_match, whole_query, whole_search}
 use Rattle.pattern_search.specs.Written.{FindsWhatIsWritten}

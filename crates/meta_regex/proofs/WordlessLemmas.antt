@@ -23,11 +23,11 @@ use Rattle.search_types.specs.declared.anchored.Anchored.TheVariants.{No}
 use Rattle.search_types.specs.Found.{Found}
 use Rattle.search_types.specs.Modes.{may_start}
 use Rattle.search_types.proofs.ForCallers.{starts_at, may_start_at}
-use Rattle.hirscan.specs.declared.settings.Settings.{Settings}
-use Rattle.hirscan.specs.Headline.{query_by}
-use Rattle.hirscan.specs.LooseAnswers.{IsCounted, IsLooseAnswer, MeansSpan}
-use Rattle.hirscan.specs.OverlappingTrees.{IsReportedEnd, IsReportedWith}
-use Rattle.hirscan.specs.Regexes.{IsSearchOf, query_of}
+use Rattle.hir_regex.specs.declared.settings.Settings.{Settings}
+use Rattle.hir_regex.specs.Headline.{query_by}
+use Rattle.hir_regex.specs.LooseAnswers.{IsCounted, IsLooseAnswer, MeansSpan}
+use Rattle.hir_regex.specs.OverlappingTrees.{IsReportedEnd, IsReportedWith}
+use Rattle.hir_regex.specs.Regexes.{IsSearchOf, query_of}
 use Rattle.pattern_text.specs.SameEnds.{pattern_looks}
 use Rattle.search_core.specs.ByteSets.{has}
 use Rattle.pattern_search.specs.Searches.{found_from, whole_query, whole_search, which_match, IsMatchOf}

@@ -4,7 +4,7 @@ use Rattle.regex_syntax.specs.declared.Config.{Config}
 use Rattle.look_core.specs.Terminators.{one_of}
 use Rattle.search_types.specs.declared.match_kind.MatchKind.{MatchKind}
 use Rattle.lazy_dfa.specs.ConfigValue.{DfaOptions, no_dfa_options}
-use Rattle.hirscan.specs.declared.settings.Settings.{Settings}
+use Rattle.hir_regex.specs.declared.settings.Settings.{Settings}
 use Rattle.meta_regex.specs.declared.options.Options.{Options}
 
 -- How the grammar parses the patterns.

@@ -17,9 +17,9 @@ use Rattle.search_types.specs.declared.match_kind.MatchKind.TheVariants.{Leftmos
 use Rattle.search_types.specs.Found.{Found}
 use Rattle.lazy_dfa.specs.ConfigValue.{kind_of}
 use Rattle.regex_pair.specs.Pairs.{Pair}
-use Rattle.hirscan.specs.declared.settings.Settings.{Settings}
-use Rattle.hirscan.specs.Built.{IsBuilt, FailsBuild}
-use Rattle.hirscan.specs.Loops.{first_empty_loop}
+use Rattle.hir_regex.specs.declared.settings.Settings.{Settings}
+use Rattle.hir_regex.specs.Built.{IsBuilt, FailsBuild}
+use Rattle.hir_regex.specs.Loops.{first_empty_loop}
 use Rattle.pattern_search.specs.Searches.{found_from, all_found, which_match, span_of_match, IsOfFirstPattern}
 use Rattle.pattern_search.specs.Texts.{AreReadAs, AllMean, IsFirstFault}
 use Rattle.meta_regex.specs.declared.errors.NewError.{NewError}

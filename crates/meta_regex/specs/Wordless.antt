@@ -9,8 +9,8 @@ use Rattle.line_trees.specs.WordlessTrees.{wordless_tree}
 use Rattle.search_types.specs.declared.match_kind.MatchKind.{MatchKind}
 use Rattle.lazy_dfa.specs.ConfigValue.{kind_of}
 use Rattle.regex_pair.specs.Pairs.{Pair}
-use Rattle.hirscan.specs.declared.settings.Settings.{Settings}
-use Rattle.hirscan.specs.Built.{IsBuilt}
+use Rattle.hir_regex.specs.declared.settings.Settings.{Settings}
+use Rattle.hir_regex.specs.Built.{IsBuilt}
 use Rattle.pattern_search.specs.Searches.{found_from, which_match}
 use Rattle.pattern_search.specs.Texts.{AllMean, AreReadAs}
 

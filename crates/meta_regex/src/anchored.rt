@@ -12,8 +12,8 @@ use crate::cache::Cache;
 use crate::compiled::Regex;
 use crate::found_match::FoundMatch;
 use crate::searching::see_bytes;
-use hirscan::find;
-use hirscan::headline::{
+use hir_regex::find;
+use hir_regex::headline::{
     searches_answer_leftmost_whatever_the_loops, searches_answer_what_trees_define,
 };
 use search_types::{Anchored, Input, Match};

@@ -1,7 +1,7 @@
 //! Builds automata from patterns.
 ghost use Rattle.std.specs.Prelude.{◌≡◌, All, Some, false, true, IfErr, IfNone, IfOk, IfSome, map};
 ghost use Rattle.hir_core.specs.Facts.{LoopsRead};
-ghost use Rattle.hirscan.specs.Loops.{first_empty_loop};
+ghost use Rattle.hir_regex.specs.Loops.{first_empty_loop};
 ghost use Rattle.meta_regex.specs.Options.{config_of};
 ghost use Rattle.meta_regex.specs.Regexes.{AreReportedOf, IsKindError};
 ghost use Rattle.meta_regex.specs.Starts.{AreTreesOf};
@@ -9,7 +9,7 @@ ghost use Rattle.meta_regex.specs.Starts.{AreTreesOf};
 use crate::errors::NewError;
 use crate::options::Options;
 use hir_core::Hir;
-use hirscan::{all_loops_read, build, first_empty_loop};
+use hir_regex::{all_loops_read, build, first_empty_loop};
 use pattern_search::parse_all;
 use regex_pair::regex::Regex;
 use search_types::MatchKind;

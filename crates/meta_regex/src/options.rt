@@ -2,7 +2,7 @@
 ghost use Rattle.std.specs.Prelude.{◌≡◌};
 ghost use Rattle.meta_regex.specs.Options.{dfa_options_of, settings_of};
 
-use hirscan::Settings;
+use hir_regex::Settings;
 use lazy_dfa::dfa;
 use pattern_text::Config;
 use search_types::MatchKind;

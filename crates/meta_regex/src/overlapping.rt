@@ -11,7 +11,7 @@ ghost use Rattle.meta_regex.specs.Regexes.{AreBuiltOf, AreWhich};
 ghost use Rattle.meta_regex.specs.Wordless.{AreWordlessOf, MayMatch};
 
 use crate::searching::{search_from, see_bytes};
-use hirscan::tree_walk_laws::{built_automata_are_walked, sets_get_the_patterns_of_spans};
+use hir_regex::tree_walk_laws::{built_automata_are_walked, sets_get_the_patterns_of_spans};
 use lazy_dfa::Work;
 use lazy_dfa::dfa::{Cache, DFA};
 use line_trees::laws::a_wordless_tree_matches_as_much;

@@ -16,7 +16,7 @@ use crate::errors::SearchError;
 use crate::fallback::find_match;
 use crate::found_match::FoundMatch;
 use crate::runs::NextRun;
-use hirscan::find;
+use hir_regex::find;
 use pattern_search::regex_laws::regexes_answer_what_is_written;
 use search_types::{Input, Match, MatchError, MatchErrorKind};
 use std::alloc::Global;

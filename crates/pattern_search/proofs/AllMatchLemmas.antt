@@ -14,9 +14,9 @@ use Rattle.search_types.proofs.ForCallers.{starts_at, ends_rise, spans_within, n
 use Rattle.hir_core.specs.Tree.{Tree}
 use Rattle.hir_core.specs.Facts.{LoopsRead}
 use Rattle.hir_core.proofs.ForCallers.{span_forward}
-use Rattle.hirscan.specs.Choices.{Query, answer_from, answers_of}
-use Rattle.hirscan.specs.LooseAnswers.{IsLooseAnswer}
-use Rattle.hirscan.specs.Regexes.{IsSearchOf}
+use Rattle.hir_regex.specs.Choices.{Query, answer_from, answers_of}
+use Rattle.hir_regex.specs.LooseAnswers.{IsLooseAnswer}
+use Rattle.hir_regex.specs.Regexes.{IsSearchOf}
 use Rattle.pattern_text.specs.SameEnds.{AreSameEnds}
 use Rattle.pattern_search.specs.Searches.{whole_search, whole_query, found_from, all_found, span_of_match, span_of_found, ListsAsRead}
 use Rattle.pattern_search.proofs.ChoiceLemmas.{answer_is_loose}

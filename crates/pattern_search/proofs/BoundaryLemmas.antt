@@ -13,8 +13,8 @@ use Rattle.hir_core.specs.Tree.{Tree}
 use Rattle.hir_core.specs.Means.{Means}
 use Rattle.hir_core.specs.Facts.{is_utf8_tree}
 use Rattle.hir_core.proofs.ForCallers.{span_forward, span_within, span_end_bounded}
-use Rattle.hirscan.specs.Choices.{may_end}
-use Rattle.hirscan.specs.Regexes.{IsSearchOf}
+use Rattle.hir_regex.specs.Choices.{may_end}
+use Rattle.hir_regex.specs.Regexes.{IsSearchOf}
 use Rattle.pattern_text.specs.SameEnds.{pattern_looks}
 use Rattle.pattern_search.specs.Searches.{whole_search, whole_query}
 

@@ -14,8 +14,8 @@ use Rattle.hir_core.specs.Tree.{Tree}
 use Rattle.hir_core.specs.Means.{Looks, Means}
 use Rattle.hir_core.specs.PreferredEnds.{preferred_ends, Has}
 use Rattle.hir_core.proofs.ForCallers.{preferred_ends_sound, preferred_ends_complete}
-use Rattle.hirscan.specs.Choices.{Query, pattern_choices, choices, pattern_ends, may_end, choices_at, answer_from}
-use Rattle.hirscan.specs.LooseAnswers.{IsCounted, IsLoose, IsLooseAnswer}
+use Rattle.hir_regex.specs.Choices.{Query, pattern_choices, choices, pattern_ends, may_end, choices_at, answer_from}
+use Rattle.hir_regex.specs.LooseAnswers.{IsCounted, IsLoose, IsLooseAnswer}
 
 -- ---- the ends that are kept of one pattern
 keeps_none : (kept : ℕ → Bool) (ends : List ℕ) → filter kept ends ≡ [] → (j : ℕ) → Has ends j → kept j ≡ true → ⊥

@@ -20,8 +20,8 @@ use Rattle.hir_core.specs.Tree.{Tree}
 use Rattle.hir_core.specs.Facts.{LoopsRead, is_utf8_tree}
 use Rattle.hir_core.specs.PreferredEnds.{preferred_ends, Has}
 use Rattle.hir_core.proofs.ForCallers.{preferred_ends_sound}
-use Rattle.hirscan.specs.Choices.{pattern_choices, choices, may_end, choices_at, answer_from}
-use Rattle.hirscan.specs.Regexes.{IsSearchOf}
+use Rattle.hir_regex.specs.Choices.{pattern_choices, choices, may_end, choices_at, answer_from}
+use Rattle.hir_regex.specs.Regexes.{IsSearchOf}
 use Rattle.pattern_text.specs.SameEnds.{pattern_looks, trace_end, first_that_goes_on, AreSameEnds}
 use Rattle.pattern_search.specs.Searches.{whole_search, whole_query, found_from, span_of_match, span_of_found, FindsAsRead}
 use Rattle.pattern_search.proofs.BoundaryLemmas.{may_begin, same_begin, span_may_end}

@@ -9,7 +9,7 @@ use Rattle.regex_syntax.specs.Captures.{SameCaptures}
 use Rattle.regex_syntax.specs.Grammar.{Names, group_count, read}
 use Rattle.hir_core.specs.Tree.{Tree}
 use Rattle.regex_pair.specs.Pairs.{Pair}
-use Rattle.hirscan.specs.declared.settings.Settings.{Settings}
+use Rattle.hir_regex.specs.declared.settings.Settings.{Settings}
 use Rattle.pattern_text.specs.SameEnds.{SameEnds, SameSpans, HasNames, AreSameEnds, AreSameSpans}
 use Rattle.pattern_text.specs.Patterns.{MeansText}
 use Rattle.pattern_search.specs.RegexAnswers.{AnswersAsRead}

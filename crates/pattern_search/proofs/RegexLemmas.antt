@@ -10,11 +10,11 @@ use Rattle.look_core.specs.Terminators.{Terminator, one_of}
 use Rattle.hir_core.specs.Tree.{Tree}
 use Rattle.hir_core.specs.Facts.{LoopsRead}
 use Rattle.search_types.specs.Found.{Found}
-use Rattle.hirscan.specs.declared.settings.Settings.{Settings}
-use Rattle.hirscan.specs.Choices.{answer_from, answers_of}
-use Rattle.hirscan.specs.Headline.{answer_to, answers_to, query_by}
-use Rattle.hirscan.specs.LooseAnswers.{IsLooseAnswer}
-use Rattle.hirscan.specs.Regexes.{IsSearchOf, query_of}
+use Rattle.hir_regex.specs.declared.settings.Settings.{Settings}
+use Rattle.hir_regex.specs.Choices.{answer_from, answers_of}
+use Rattle.hir_regex.specs.Headline.{answer_to, answers_to, query_by}
+use Rattle.hir_regex.specs.LooseAnswers.{IsLooseAnswer}
+use Rattle.hir_regex.specs.Regexes.{IsSearchOf, query_of}
 use Rattle.pattern_text.specs.SameEnds.{AreSameEnds, AreSameSpans}
 use Rattle.pattern_search.specs.Searches.{whole_search, whole_query, found_from, all_found, span_of_match, span_of_found, IsOfFirstPattern}
 use Rattle.pattern_search.proofs.AllMatchLemmas.{lists_from, lists_as_read}

@@ -19,9 +19,9 @@ use Rattle.search_types.proofs.ForCallers.{starts_at, may_start_at}
 use Rattle.hir_core.specs.Tree.{Tree}
 use Rattle.hir_core.specs.Facts.{is_utf8_tree}
 use Rattle.hir_core.proofs.ForCallers.{span_within}
-use Rattle.hirscan.specs.Choices.{answer_from}
-use Rattle.hirscan.specs.LooseAnswers.{IsCounted, IsLoose, IsLooseAnswer}
-use Rattle.hirscan.specs.Regexes.{IsSearchOf}
+use Rattle.hir_regex.specs.Choices.{answer_from}
+use Rattle.hir_regex.specs.LooseAnswers.{IsCounted, IsLoose, IsLooseAnswer}
+use Rattle.hir_regex.specs.Regexes.{IsSearchOf}
 use Rattle.pattern_text.specs.SameEnds.{pattern_looks, SameSpans, AreSameSpans}
 use Rattle.pattern_search.specs.Searches.{whole_search, whole_query, found_from, IsMatchOf, SpansAsRead, IsOfFirstPattern, StartsAsRead}
 use Rattle.pattern_search.proofs.BoundaryLemmas.{may_begin, same_begin, span_counts}

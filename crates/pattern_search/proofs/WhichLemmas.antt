@@ -26,8 +26,8 @@ use Rattle.lazy_dfa.specs.Caches.{CacheValue}
 use Rattle.lazy_dfa.specs.Dfas.{Dfa}
 use Rattle.lazy_dfa.specs.OverlappingAnswers.{with_pattern, is_full, which_from, AnswersWhich}
 use Rattle.lazy_dfa.proofs.ForCallers.{room_kept}
-use Rattle.hirscan.specs.Regexes.{IsSearchOf}
-use Rattle.hirscan.specs.OverlappingTrees.{IsReportedEnd}
+use Rattle.hir_regex.specs.Regexes.{IsSearchOf}
+use Rattle.hir_regex.specs.OverlappingTrees.{IsReportedEnd}
 use Rattle.pattern_text.specs.SameEnds.{pattern_looks, AreSameSpans}
 use Rattle.pattern_search.specs.Searches.{whole_search, whole_query, found_from, which_match}
 use Rattle.pattern_search.proofs.BoundaryLemmas.{may_begin, same_begin, span_counts}

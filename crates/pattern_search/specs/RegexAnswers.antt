@@ -12,8 +12,8 @@ use Rattle.regex_pair.specs.Matching.{AnswersMatch}
 use Rattle.regex_pair.specs.PairAnswers.{AnswersPair}
 use Rattle.regex_pair.specs.Pairs.{Pair, PairCache}
 use Rattle.regex_pair.specs.Taken.{AreTaken}
-use Rattle.hirscan.specs.declared.settings.Settings.{Settings}
-use Rattle.hirscan.specs.Regexes.{IsSearchOf}
+use Rattle.hir_regex.specs.declared.settings.Settings.{Settings}
+use Rattle.hir_regex.specs.Regexes.{IsSearchOf}
 use Rattle.pattern_search.specs.Searches.{whole_search, found_from, all_found, span_of_match, span_of_found, IsOfFirstPattern}
 
 -- What a regex answers for searches of whole haystacks, whatever its caches hold. In any case, an answer has the start that the

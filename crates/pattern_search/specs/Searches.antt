@@ -11,9 +11,9 @@ use Rattle.hir_core.specs.Tree.{Tree}
 use Rattle.search_types.specs.declared.anchored.Anchored.TheVariants.{No}
 use Rattle.search_types.specs.Found.{Found}
 use Rattle.search_types.specs.Inputs.{Search}
-use Rattle.hirscan.specs.Choices.{Query, answer_from, answers_of}
-use Rattle.hirscan.specs.LooseAnswers.{MeansSpan, IsLooseAnswer}
-use Rattle.hirscan.specs.Regexes.{IsSearchOf, query_of}
+use Rattle.hir_regex.specs.Choices.{Query, answer_from, answers_of}
+use Rattle.hir_regex.specs.LooseAnswers.{MeansSpan, IsLooseAnswer}
+use Rattle.hir_regex.specs.Regexes.{IsSearchOf, query_of}
 use Rattle.pattern_text.specs.SameEnds.{pattern_looks}
 
 -- a search of the whole haystack from the offset s on, which may start at any offset

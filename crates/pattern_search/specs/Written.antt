@@ -5,7 +5,7 @@ use Rattle.regex_syntax.specs.declared.Config.{Config}
 use Rattle.hir_core.specs.Tree.{Tree}
 use Rattle.hir_core.specs.Facts.{LoopsRead}
 use Rattle.regex_pair.specs.Pairs.{Pair}
-use Rattle.hirscan.specs.declared.settings.Settings.{Settings}
+use Rattle.hir_regex.specs.declared.settings.Settings.{Settings}
 use Rattle.pattern_text.specs.SameEnds.{AreSameEnds, AreSameSpans}
 use Rattle.pattern_search.specs.RegexAnswers.{AnswersAsRead}
 use Rattle.pattern_search.specs.Searches.{SpansAsRead, StartsAsRead, FindsAsRead, ListsAsRead}

@@ -18,20 +18,20 @@ ghost use Rattle.lazy_dfa.specs.Caches.{CacheValue};
 ghost use Rattle.lazy_dfa.specs.ConfigValue.{kind_of};
 ghost use Rattle.lazy_dfa.specs.OverlappingAnswers.{AnswersWhich};
 ghost use Rattle.regex_pair.specs.Pairs.{Pair};
-ghost use Rattle.hirscan.specs.declared.settings.Settings.{Settings};
-ghost use Rattle.hirscan.specs.Built.{IsBuilt, FindsFirst};
-ghost use Rattle.hirscan.specs.Regexes.{IsSearchOf};
+ghost use Rattle.hir_regex.specs.declared.settings.Settings.{Settings};
+ghost use Rattle.hir_regex.specs.Built.{IsBuilt, FindsFirst};
+ghost use Rattle.hir_regex.specs.Regexes.{IsSearchOf};
 ghost use Rattle.pattern_text.specs.SameEnds.{AreSameEnds, AreSameSpans};
 ghost use Rattle.pattern_search.specs.RegexAnswers.{AnswersAsRead};
 ghost use Rattle.pattern_search.specs.Searches.{whole_search, which_match};
 ghost use Rattle.pattern_search.specs.Texts.{AllMean, AreReadAs};
 ghost use Rattle.pattern_search.specs.Written.{AnswersWhatIsWritten};
 
-use hirscan::headline::{
+use hir_regex::headline::{
     iterators_list_the_answers, matches_are_told_as_trees_define,
     searches_answer_leftmost_whatever_the_loops, searches_answer_what_trees_define,
 };
-use hirscan::tree_walk_laws::{built_automata_are_walked, sets_get_the_patterns_of_spans};
+use hir_regex::tree_walk_laws::{built_automata_are_walked, sets_get_the_patterns_of_spans};
 
 /// Take a regex that is built of the trees of patterns and whose lines end at a line feed. It answers what the toolchain's matcher
 /// finds for the patterns.

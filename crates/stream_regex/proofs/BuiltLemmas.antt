@@ -5,7 +5,7 @@ use Rattle.search_core.specs.ByteSets.{has}
 use Rattle.hir_core.specs.Tree.{Tree}
 use Rattle.lazy_dfa.specs.ConfigValue.{no_bytes}
 use Rattle.lazy_dfa.specs.Quits.{with_high_bytes}
-use Rattle.hirscan.specs.Built.{quit_bytes_for, use_unicode_words}
+use Rattle.hir_regex.specs.Built.{quit_bytes_for, use_unicode_words}
 use Rattle.stream_regex.specs.StreamRegexes.{dfa_options_of}
 use Rattle.stream_regex.specs.declared.options.Options.{Options}
 

@@ -17,9 +17,9 @@ use Rattle.lazy_dfa.specs.Dfas.{Dfa, reader}
 use Rattle.lazy_dfa.specs.HalfSearchLaws.{HasNoQuitNear}
 use Rattle.lazy_dfa.specs.Overlapping.{Rest}
 use Rattle.lazy_dfa.specs.Readers.{is_quit}
-use Rattle.hirscan.specs.LooseAnswers.{MeansSpan}
-use Rattle.hirscan.specs.OverlappingTrees.{IsReportedEnd, IsReportedWith}
-use Rattle.hirscan.specs.Regexes.{IsSearchOf}
+use Rattle.hir_regex.specs.LooseAnswers.{MeansSpan}
+use Rattle.hir_regex.specs.OverlappingTrees.{IsReportedEnd, IsReportedWith}
+use Rattle.hir_regex.specs.Regexes.{IsSearchOf}
 use Rattle.pattern_text.specs.SameEnds.{pattern_looks}
 use Rattle.pattern_search.specs.Searches.{SpansAsRead, whole_query, whole_search}
 use Rattle.pattern_search.specs.Texts.{AreReadAs}

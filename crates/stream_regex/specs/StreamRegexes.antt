@@ -11,8 +11,8 @@ use Rattle.search_types.specs.declared.match_kind.MatchKind.TheVariants.{All as 
 use Rattle.lazy_dfa.specs.ConfigValue.{DfaOptions, no_dfa_options}
 use Rattle.lazy_dfa.specs.Dfas.{Dfa}
 use Rattle.regex_pair.specs.Pairs.{Pair}
-use Rattle.hirscan.specs.declared.settings.Settings.{Settings}
-use Rattle.hirscan.specs.Built.{FailsBuild, IsBuilt}
+use Rattle.hir_regex.specs.declared.settings.Settings.{Settings}
+use Rattle.hir_regex.specs.Built.{FailsBuild, IsBuilt}
 use Rattle.pattern_search.specs.Texts.{AllMean, IsFirstFault}
 use Rattle.stream_regex.specs.declared.errors.NewError.{NewError}
 use Rattle.stream_regex.specs.declared.errors.NewError.TheVariants.{NoMemory, Text, WordLook, Build}

@@ -14,7 +14,7 @@ ghost use Rattle.stream_regex.specs.Meaning.{IsEndOf, IsEndOfLine};
 ghost use Rattle.stream_regex.specs.StreamRegexes.{IsStreamRegexOf};
 ghost use Rattle.stream_regex.specs.declared.options.Options.{Options};
 
-use hirscan::tree_walk_laws::{
+use hir_regex::tree_walk_laws::{
     built_automata_are_walked, walks_over_trees_tell_each_once, walks_tell_what_trees_mean,
 };
 use lazy_dfa::walk_laws::walks_are_refused_by_quit_bytes_and_modes_alone;

@@ -6,7 +6,7 @@ ghost use Rattle.stream_regex.specs.StreamRegexes.{IsNewError, IsStreamRegexOf, 
 use crate::errors::NewError;
 use crate::options::Options;
 use hir_core::Hir;
-use hirscan::build;
+use hir_regex::build;
 use lazy_dfa::dfa::{Cache, DFA};
 use pattern_search::parse_all;
 use regex_pair::regex::Regex;

@@ -6,9 +6,9 @@ use Rattle.hir_core.specs.Facts.{LoopsRead}
 use Rattle.search_types.specs.Found.{Found}
 use Rattle.search_types.specs.Inputs.{Search}
 use Rattle.regex_pair.specs.Pairs.{Pair}
-use Rattle.hirscan.specs.declared.settings.Settings.{Settings}
-use Rattle.hirscan.specs.Built.{IsBuilt}
-use Rattle.hirscan.specs.Regexes.{IsSearchOf}
+use Rattle.hir_regex.specs.declared.settings.Settings.{Settings}
+use Rattle.hir_regex.specs.Built.{IsBuilt}
+use Rattle.hir_regex.specs.Regexes.{IsSearchOf}
 use Rattle.pattern_search.specs.Searches.{whole_search}
 use Rattle.pattern_search.specs.Written.{AnswersWhatIsWritten}
 use Rattle.tests_client.specs.TextReports.{IsListed, AreAllMatches}

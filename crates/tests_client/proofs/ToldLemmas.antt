@@ -3,7 +3,7 @@ use Rattle.std.proofs.Common.{◌≡◌, Option, List, subst}
 use Rattle.search_types.specs.Found.{Found}
 use Rattle.search_types.specs.Inputs.{Search}
 use Rattle.hir_core.specs.Tree.{Tree}
-use Rattle.hirscan.specs.declared.settings.Settings.{Settings}
+use Rattle.hir_regex.specs.declared.settings.Settings.{Settings}
 use Rattle.tests_client.specs.ClientReports.{IsClientReported}
 
 pub as_said : (xs : List Tree) (made s : Settings) (asked q : Search) (first second : Option Found) (all : List Found) →

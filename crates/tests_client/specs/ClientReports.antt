@@ -6,9 +6,9 @@ use Rattle.hir_core.specs.Tree.{Tree}
 use Rattle.search_types.specs.declared.anchored.Anchored.TheVariants.{No}
 use Rattle.search_types.specs.Found.{Found}
 use Rattle.search_types.specs.Inputs.{Search}
-use Rattle.hirscan.specs.declared.settings.Settings.{Settings}
-use Rattle.hirscan.specs.Headline.{answer_to, answers_to}
-use Rattle.hirscan.specs.Regexes.{IsSearchOf}
+use Rattle.hir_regex.specs.declared.settings.Settings.{Settings}
+use Rattle.hir_regex.specs.Headline.{answer_to, answers_to}
+use Rattle.hir_regex.specs.Regexes.{IsSearchOf}
 
 -- a search of the whole haystack
 abbrev pub client_search : List ℕ → Search

@@ -8,8 +8,8 @@ use Rattle.search_types.specs.Found.{Found}
 use Rattle.search_types.specs.Inputs.{Search}
 use Rattle.regex_pair.specs.Pairs.{Pair}
 use Rattle.regex_pair.specs.Taken.{IsWholeList}
-use Rattle.hirscan.specs.declared.settings.Settings.{Settings}
-use Rattle.hirscan.specs.Built.{IsBuilt}
+use Rattle.hir_regex.specs.declared.settings.Settings.{Settings}
+use Rattle.hir_regex.specs.Built.{IsBuilt}
 use Rattle.pattern_search.specs.Searches.{all_found, span_of_match, span_of_found}
 use Rattle.pattern_search.specs.Texts.{AreReadAs}
 

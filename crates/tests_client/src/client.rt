@@ -2,13 +2,13 @@
 ghost use Rattle.std.specs.Prelude.{◌≡◌, ◌++◌, ◌∷◌, [], List, All, IfOk, OnOk, MatchOption};
 ghost use Rattle.hir_core.specs.Tree.{Tree};
 ghost use Rattle.regex_pair.specs.Pairs.{AreCachesOf};
-ghost use Rattle.hirscan.specs.declared.settings.Settings.{Settings};
-ghost use Rattle.hirscan.specs.Built.{IsBuilt, FindsFirst, program_settings};
+ghost use Rattle.hir_regex.specs.declared.settings.Settings.{Settings};
+ghost use Rattle.hir_regex.specs.Built.{IsBuilt, FindsFirst, program_settings};
 ghost use Rattle.tests_client.specs.ClientReports.{client_search, MayAsk, AreTheAnswer, IsTheList, IsClientReported};
 
 use hir_core::Hir;
-use hirscan::headline::iterators_list_the_answers;
-use hirscan::{Settings, all_loops_read, build, find, is_search_of, program_settings};
+use hir_regex::headline::iterators_list_the_answers;
+use hir_regex::{Settings, all_loops_read, build, find, is_search_of, program_settings};
 use regex_pair::regex::{Cache, Regex};
 use regex_pair::taken_laws::a_step_takes_one_more;
 use search_types::{Input, Match, MatchError};

@@ -1,4 +1,4 @@
-//! A client of `hirscan`, as another program would be. It builds a regex of trees, searches twice over the same caches with another
+//! A client of `hir_regex`, as another program would be. It builds a regex of trees, searches twice over the same caches with another
 //! search and a reset in between, and lists the matches. By public contracts and public laws alone, each answer is proved to be the
 //! one that the trees define. What it asks first is run on rows.
 //!

@@ -1,6 +1,6 @@
 //! Finds where a pattern has an empty loop: an unbounded repetition whose body can match the empty string.
 
-use hirscan::first_empty_loop;
+use hir_regex::first_empty_loop;
 use pattern_search::parse_all;
 use pattern_text::{Config, ParseError};
 use regex_syntax::ErrorKind;

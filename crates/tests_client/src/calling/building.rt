@@ -1,8 +1,8 @@
 ghost use Rattle.std.specs.Prelude.{IfOk, map};
-ghost use Rattle.hirscan.specs.Built.{IsBuilt, default_settings};
+ghost use Rattle.hir_regex.specs.Built.{IsBuilt, default_settings};
 
 use hir_core::Hir;
-use hirscan::{Settings, build, program_settings};
+use hir_regex::{Settings, build, program_settings};
 use lazy_dfa::BuildError;
 use pattern_search::{PatternError, parse_all};
 use pattern_text::Config;

@@ -4,11 +4,11 @@ ghost use Rattle.lazy_dfa.specs.Accounting.{effective_capacity};
 ghost use Rattle.lazy_dfa.specs.Building.{measures_with};
 ghost use Rattle.lazy_dfa.specs.ConfigValue.{capacity_of, skips_check};
 ghost use Rattle.regex_pair.specs.Pairs.{AreCachesOf};
-ghost use Rattle.hirscan.specs.declared.settings.Settings.{Settings as SettingsValue};
-ghost use Rattle.hirscan.specs.Built.{IsBuilt, FindsFirst};
+ghost use Rattle.hir_regex.specs.declared.settings.Settings.{Settings as SettingsValue};
+ghost use Rattle.hir_regex.specs.Built.{IsBuilt, FindsFirst};
 
-use hirscan::Settings;
-use hirscan::headline::caches_stay_within_their_capacity;
+use hir_regex::Settings;
+use hir_regex::headline::caches_stay_within_their_capacity;
 use regex_pair::regex::{Cache, Regex};
 
 /// Settings with so many bytes for each of both caches, or the least that it needs where that is more.

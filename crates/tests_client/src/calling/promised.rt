@@ -6,13 +6,13 @@ ghost use Rattle.search_types.specs.declared.match_error.MatchErrorKind.TheVaria
 ghost use Rattle.search_types.specs.Modes.{is_supported};
 ghost use Rattle.lazy_dfa.specs.ConfigValue.{clears_of, starts_each_of};
 ghost use Rattle.regex_pair.specs.Pairs.{AreCachesOf};
-ghost use Rattle.hirscan.specs.declared.settings.Settings.{Settings};
-ghost use Rattle.hirscan.specs.Built.{IsBuilt, FindsFirst, quit_bytes_for};
-ghost use Rattle.hirscan.specs.Headline.{answer_to, IsQuiet};
-ghost use Rattle.hirscan.specs.Regexes.{IsSearchOf};
+ghost use Rattle.hir_regex.specs.declared.settings.Settings.{Settings};
+ghost use Rattle.hir_regex.specs.Built.{IsBuilt, FindsFirst, quit_bytes_for};
+ghost use Rattle.hir_regex.specs.Headline.{answer_to, IsQuiet};
+ghost use Rattle.hir_regex.specs.Regexes.{IsSearchOf};
 
-use hirscan::find;
-use hirscan::headline::searches_answer_where_no_byte_quits;
+use hir_regex::find;
+use hir_regex::headline::searches_answer_where_no_byte_quits;
 use regex_pair::regex::{Cache, Regex};
 use search_types::{Input, Match, MatchError};
 

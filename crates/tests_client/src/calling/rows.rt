@@ -11,7 +11,7 @@ use crate::calling::searching::{count, first_range, match_at};
 use crate::calling::trees::time_of_day;
 use crate::calling::walking::{add_patterns, first_ends, walking_settings};
 use hir_core::Hir;
-use hirscan::{Settings, build};
+use hir_regex::{Settings, build};
 use lazy_dfa::dfa;
 use lazy_dfa::dfa::DFA;
 use pattern_search::parse_all;

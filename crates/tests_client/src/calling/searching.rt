@@ -1,7 +1,7 @@
 ghost use Rattle.std.specs.Prelude.{◌≡◌};
 ghost use Rattle.regex_pair.specs.Pairs.{AreCachesOf};
 
-use hirscan::find;
+use hir_regex::find;
 use regex_pair::regex::{Cache, Regex};
 use search_types::{Anchored, Input, Match, MatchError, Span};
 use std::ops::Range;

@@ -1,7 +1,7 @@
 ghost use Rattle.std.specs.Prelude.{◌≡◌, ◌<◌, false};
 ghost use Rattle.lazy_dfa.specs.Caches.{IsCacheOf};
 
-use hirscan::Settings;
+use hir_regex::Settings;
 use lazy_dfa::Work;
 use lazy_dfa::dfa::{Cache, DFA, OverlappingState};
 use search_types::{HalfMatch, Input, MatchError, MatchKind, PatternSet};

@@ -3,8 +3,8 @@ ghost use Rattle.regex_syntax.specs.declared.Config.{Config as Options};
 ghost use Rattle.look_core.specs.Terminators.{one_of};
 ghost use Rattle.hir_core.specs.Tree.{Tree};
 ghost use Rattle.regex_pair.specs.Pairs.{Pair};
-ghost use Rattle.hirscan.specs.Built.{FindsFirst, IsBuilt};
-ghost use Rattle.hirscan.specs.declared.settings.Settings.{Settings};
+ghost use Rattle.hir_regex.specs.Built.{FindsFirst, IsBuilt};
+ghost use Rattle.hir_regex.specs.declared.settings.Settings.{Settings};
 ghost use Rattle.pattern_search.specs.Texts.{AllMean};
 ghost use Rattle.pattern_search.specs.Written.{AnswersWhatIsWritten, FindsWhatIsWritten};
 

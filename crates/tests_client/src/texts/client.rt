@@ -3,11 +3,11 @@ ghost use Rattle.std.specs.Prelude.{◌≡◌, ◌++◌, ◌∷◌, [], IfOk, If
 ghost use Rattle.look_core.specs.Terminators.{one_of};
 ghost use Rattle.regex_pair.specs.Pairs.{AreCachesOf};
 ghost use Rattle.regex_pair.specs.Taken.{IsWholeList};
-ghost use Rattle.hirscan.specs.Built.{FindsFirst};
+ghost use Rattle.hir_regex.specs.Built.{FindsFirst};
 ghost use Rattle.tests_client.specs.TextReports.{IsListed, AreAllMatches};
 
 use hir_core::Hir;
-use hirscan::{Settings, all_loops_read, build, is_search_of, program_settings};
+use hir_regex::{Settings, all_loops_read, build, is_search_of, program_settings};
 use pattern_search::regex_laws::regexes_answer_what_is_written;
 use pattern_search::{PatternError, parse_all};
 use pattern_text::Config;

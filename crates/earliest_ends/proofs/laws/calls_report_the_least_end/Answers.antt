@@ -1,5 +1,5 @@
 use Rattle.std.proofs.Common.{Bool, subst}
-use Rattle.hirscan.specs.Regexes.{IsRegexOf}
+use Rattle.hir_regex.specs.Regexes.{IsRegexOf}
 use Rattle.earliest_ends.proofs.AnswerLemmas.{found_by_call, refused_by_call}
 use Rattle.earliest_ends.proofs.laws.calls_report_the_least_end.Goals as goal
 

@@ -1,5 +1,5 @@
 use Rattle.std.proofs.Common.{◌∙◌, ap}
-use Rattle.hirscan.specs.Loops.{first_empty_loop}
+use Rattle.hir_regex.specs.Loops.{first_empty_loop}
 use Rattle.hirscan.specs.Rejections.{first_not_utf8}
 use Rattle.hirscan.proofs.CauseLemmas.{cause_of_loops, cause_of_utf8}
 use Rattle.hirscan.proofs.causes.pattern_cause.Goals as goal

@@ -1,7 +1,7 @@
 use Rattle.std.proofs.Common.{◌∷◌, [], sym, subst, ◌∙◌}
 use Rattle.hir_core.specs.Tree.{Tree}
 use Rattle.regex_pair.specs.Pairs.{Pair}
-use Rattle.hirscan.specs.Built.{IsBuilt}
+use Rattle.hir_regex.specs.Built.{IsBuilt}
 use Rattle.line_search.specs.Searchers.{line_settings}
 use Rattle.line_search.proofs.EdgeLemmas.{line_tree_kept}
 use Rattle.line_search.proofs.candidates.exact_regex.Goals as goal

@@ -1,7 +1,7 @@
 use Rattle.std.proofs.Common.{◌∷◌, [], subst}
 use Rattle.hir_core.specs.Tree.{Tree}
 use Rattle.line_trees.specs.LineTrees.{line_tree}
-use Rattle.hirscan.specs.Built.{IsBuilt, FailsBuild}
+use Rattle.hir_regex.specs.Built.{IsBuilt, FailsBuild}
 use Rattle.line_search.specs.Searchers.{line_settings}
 use Rattle.line_search.proofs.candidates.wordless_regex.Goals as goal
 

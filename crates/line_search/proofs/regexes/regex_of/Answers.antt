@@ -1,8 +1,8 @@
 use Rattle.std.proofs.Common.{◌∷◌, [], List, sym, subst}
 use Rattle.hir_core.specs.Tree.{Tree}
 use Rattle.regex_pair.specs.Pairs.{Pair}
-use Rattle.hirscan.specs.Built.{IsBuilt, FailsBuild}
-use Rattle.hirscan.specs.declared.settings.Settings.{Settings}
+use Rattle.hir_regex.specs.Built.{IsBuilt, FailsBuild}
+use Rattle.hir_regex.specs.declared.settings.Settings.{Settings}
 use Rattle.line_search.specs.Searchers.{line_settings}
 use Rattle.line_search.proofs.regexes.regex_of.Goals as goal
 

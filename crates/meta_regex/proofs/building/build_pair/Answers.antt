@@ -2,8 +2,8 @@ use Rattle.std.proofs.Common.{List, ap, subst, true, ◌≡◌, ◌↔◌, All}
 use Rattle.hir_core.specs.Facts.{LoopsRead}
 use Rattle.hir_core.specs.Tree.{Tree}
 use Rattle.lazy_dfa.specs.ConfigValue.{kind_of}
-use Rattle.hirscan.specs.declared.settings.Settings.{Settings}
-use Rattle.hirscan.specs.Built.{IsBuilt, FailsBuild}
+use Rattle.hir_regex.specs.declared.settings.Settings.{Settings}
+use Rattle.hir_regex.specs.Built.{IsBuilt, FailsBuild}
 use Rattle.meta_regex.proofs.building.build_pair.Goals as goal
 
 pub returns-in-Err-build-clause-refused : goal.returns-in-Err-build-clause-refused

@@ -3,7 +3,7 @@ use Rattle.ucd_perl.specs.Perl.{is_word_char}
 use Rattle.look_core.specs.Terminators.{Terminator}
 use Rattle.search_core.specs.ByteSets.{has}
 use Rattle.pattern_text.specs.Words.{word_set}
-use Rattle.hirscan.specs.OverlappingTrees.{IsReportedWith}
+use Rattle.hir_regex.specs.OverlappingTrees.{IsReportedWith}
 use Rattle.pattern_search.specs.Searches.{whole_search}
 use Rattle.pattern_search.proofs.WhichLemmas.{room_of, which_is}
 use Rattle.pattern_search.proofs.regex_laws.overlapping_searches_find_which_patterns_match.Goals as goal

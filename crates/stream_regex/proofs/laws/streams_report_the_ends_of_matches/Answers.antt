@@ -2,7 +2,7 @@ use Rattle.std.proofs.Common.{◌≡◌, None, false, refl, subst, sym}
 use Rattle.lazy_dfa.specs.Dfas.{Dfa, reader}
 use Rattle.lazy_dfa.specs.Overlapping.{Rest, whole_rest}
 use Rattle.look_core.specs.Terminators.{one_of}
-use Rattle.hirscan.specs.OverlappingTrees.{IsOverlappingDfa}
+use Rattle.hir_regex.specs.OverlappingTrees.{IsOverlappingDfa}
 use Rattle.nfa_core.specs.Places.{same_pair}
 use Rattle.nfa_core.specs.Walks.{HasNoneTwice}
 use Rattle.lazy_dfa.specs.OverlappingLaws.{IsInReadingOrder}

@@ -1,4 +1,4 @@
-use Rattle.hirscan.specs.Built.{program_settings}
+use Rattle.hir_regex.specs.Built.{program_settings}
 use Rattle.tests_client.specs.ClientReports.{client_search}
 use Rattle.tests_client.proofs.ToldLemmas.{as_said}
 use Rattle.tests_client.proofs.client.ask.Goals as goal

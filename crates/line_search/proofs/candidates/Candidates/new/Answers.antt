@@ -1,7 +1,7 @@
 use Rattle.std.proofs.Common.{◌∷◌, [], Bool, None, sym, ◌∙◌, subst}
 use Rattle.regex_pair.specs.Pairs.{AreCachesOf, Pair}
 use Rattle.line_trees.specs.LineTrees.{line_tree}
-use Rattle.hirscan.specs.Built.{IsBuilt}
+use Rattle.hir_regex.specs.Built.{IsBuilt}
 use Rattle.line_search.specs.Candidates.{searched_tree}
 use Rattle.line_search.specs.Searchers.{line_settings}
 use Rattle.line_search.proofs.CandidateLemmas.{feedless_by}

@@ -3,7 +3,7 @@ use Rattle.std.specs.Prelude.{not, option_map}
 use Rattle.ucd_perl.specs.Perl.{is_word_char}
 use Rattle.pattern_text.specs.Words.{word_set}
 use Rattle.regex_pair.specs.Pairs.{Pair, PairCache}
-use Rattle.hirscan.specs.Built.{IsBuilt}
+use Rattle.hir_regex.specs.Built.{IsBuilt}
 use Rattle.line_search.specs.Searchers.{sized_settings}
 use Rattle.line_trees.specs.LineTrees.{line_tree}
 use Rattle.line_search.specs.declared.candidates.Stop.{Stop}

@@ -1,5 +1,5 @@
 use Rattle.std.proofs.Common.{◌≡◌, ◌∙◌, ap}
-use Rattle.hirscan.specs.Loops.{first_empty_loop}
+use Rattle.hir_regex.specs.Loops.{first_empty_loop}
 use Rattle.pattern_search.specs.Texts.{AllMean}
 use Rattle.pattern_search.proofs.ForCallers.{read_texts}
 use Rattle.line_search.specs.Meant.{line_config}

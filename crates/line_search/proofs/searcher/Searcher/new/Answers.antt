@@ -1,6 +1,6 @@
 use Rattle.std.proofs.Common.{◌∷◌, [], sym, subst}
 use Rattle.regex_pair.specs.Pairs.{Pair}
-use Rattle.hirscan.specs.Built.{IsBuilt}
+use Rattle.hir_regex.specs.Built.{IsBuilt}
 use Rattle.line_search.specs.Searchers.{line_settings}
 use Rattle.line_search.proofs.searcher.Searcher.new.Goals as goal
 

@@ -1,7 +1,7 @@
 use Rattle.std.proofs.Common.{◌≡◌, ◌∙◌, List, None, ap, refl, subst, sym}
 use Rattle.hir_core.specs.Tree.{Tree}
-use Rattle.hirscan.specs.Built.{FailsBuild, IsBuilt, quit_bytes_for}
-use Rattle.hirscan.specs.declared.settings.Settings.{Settings}
+use Rattle.hir_regex.specs.Built.{FailsBuild, IsBuilt, quit_bytes_for}
+use Rattle.hir_regex.specs.declared.settings.Settings.{Settings}
 use Rattle.stream_regex.specs.StreamRegexes.{first_word_look, settings_of}
 use Rattle.stream_regex.proofs.BuiltLemmas.{gives_up_nowhere}
 use Rattle.stream_regex.proofs.regex.StreamRegex.new.Goals as goal

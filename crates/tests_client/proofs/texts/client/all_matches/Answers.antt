@@ -1,6 +1,6 @@
 use Rattle.std.proofs.Common.{All, map, refl, subst, List, ℕ, Bor}
 use Rattle.hir_core.specs.Facts.{LoopsRead}
-use Rattle.hirscan.specs.Regexes.{IsSearchOf}
+use Rattle.hir_regex.specs.Regexes.{IsSearchOf}
 use Rattle.tests_client.specs.TextReports.{IsListed}
 use Rattle.tests_client.proofs.TextsToldLemmas.{all_listed}
 use Rattle.tests_client.proofs.texts.client.all_matches.Goals as goal

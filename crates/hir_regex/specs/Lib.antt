@@ -1,0 +1,9 @@
+pub mod BrokenText
+pub mod Choices
+pub mod Loops
+pub mod Built
+pub mod Regexes
+pub mod Headline
+pub mod LooseAnswers
+pub mod OverlappingTrees
+pub mod ReachLaws

@@ -1,5 +1,0 @@
-use Rattle.hirscan.proofs.HeadlineLemmas.{caches_fit}
-use Rattle.hirscan.proofs.headline.caches_stay_within_their_capacity.Goals as goal
-
-pub returns : goal.returns
-returns c = caches_fit

@@ -1,5 +1,0 @@
-use Rattle.hirscan.proofs.HeadlineLemmas.{answers_trees_loosely}
-use Rattle.hirscan.proofs.headline.searches_answer_leftmost_whatever_the_loops.Goals as goal
-
-pub returns : goal.returns
-returns c = answers_trees_loosely

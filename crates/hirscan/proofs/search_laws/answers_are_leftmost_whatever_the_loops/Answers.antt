@@ -1,5 +1,0 @@
-use Rattle.hirscan.proofs.SearchLemmas.{answers_loosely}
-use Rattle.hirscan.proofs.search_laws.answers_are_leftmost_whatever_the_loops.Goals as goal
-
-pub returns : goal.returns
-returns c = answers_loosely

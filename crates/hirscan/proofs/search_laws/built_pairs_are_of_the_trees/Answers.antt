@@ -1,5 +1,0 @@
-use Rattle.hirscan.proofs.BuiltPairLemmas.{built_pair_is}
-use Rattle.hirscan.proofs.search_laws.built_pairs_are_of_the_trees.Goals as goal
-
-pub returns : goal.returns
-returns c = built_pair_is

@@ -1,7 +1,0 @@
-use Rattle.std.proofs.Common.{sym, ◌∙◌}
-use Rattle.hirscan.proofs.AskedLemmas.{not_utf8}
-use Rattle.hirscan.proofs.searching.is_search_of.Goals as goal
-
-pub returns-then-not-are_utf8 : goal.returns-then-not-are_utf8
-returns-then-not-are_utf8 c =
-    not_utf8 c.args.trees.now c.args.utf8 c.args.input.now c.if-not-utf8.false (sym c.are_utf8.ensures ∙ c.if-not-are_utf8.true)
