@@ -13,6 +13,7 @@ mod JoinedLemmas
 pub mod LineCutLemmas
 mod LiteralLemmas
 mod LoopLemmas
+pub mod MatchLemmas
 mod NumberedLemmas
 mod OwnLemmas
 mod PartLemmas

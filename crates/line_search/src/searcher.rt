@@ -13,6 +13,7 @@ use crate::listing::{list, spans_of};
 use crate::regexes::{regex_of, resized};
 use hir_core::Hir;
 use hir_regex::find;
+use hir_regex::headline::searches_answer_leftmost_whatever_the_loops;
 use lazy_dfa::BuildError;
 use pattern_search::PatternError;
 use pattern_search::regex_laws::regexes_answer_what_patterns_say;
@@ -139,7 +140,7 @@ impl Searcher {
         ensures refused { IfErr result (IsLineError self.old.0 line.now) }
     {
         see_bytes(line);
-        regexes_answer_what_patterns_say();
+        searches_answer_leftmost_whatever_the_loops();
         let found = match find(&self.regex, &mut self.cache, &Input::new(line)) {
             Ok(found) => found,
             Err(e) => return Err(e),
