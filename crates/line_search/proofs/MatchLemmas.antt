@@ -56,6 +56,17 @@ pub asked_for_spans : (how : PatternOptions) (texts : List (List ℕ)) (spans : 
     spans ≡ true → IsTreeOf how texts x
 asked_for_spans how texts spans x mean asked = subst (λ (b : Bool). IsTreeAskedFor how texts b x) asked mean
 
+-- and the other way round
+pub asked_whole : (how : PatternOptions) (texts : List (List ℕ)) (spans : Bool) (x : Tree) → IsTreeOf how texts x →
+    IsTreeAskedFor how texts spans x
+asked_whole how texts true x mean = mean
+asked_whole how texts false x mean = for_lines how texts x mean
+
+pub asked_fewer : (how : PatternOptions) (texts : List (List ℕ)) (spans : Bool) (x y : Tree) → IsTreeOf how texts x → spans ≡ false →
+    HasFewerWords x y → IsTreeAskedFor how texts spans y
+asked_fewer how texts spans x y mean lines fewer =
+    subst (λ (b : Bool). IsTreeAskedFor how texts b y) (sym lines) (for_lines_fewer how texts x y mean fewer)
+
 -- the patterns can be parsed
 pub read_for_lines : (how : PatternOptions) (texts : List (List ℕ)) (x : Tree) → IsTreeForLines how texts x →
     (res : List Re) × AreReadAs (line_config how) texts res

@@ -1,6 +1,6 @@
 //! Leaves words out of a tree where nobody asks which word a line has. A line that has a word also has each word with which that word
 //! begins.
-ghost use Rattle.std.specs.Prelude.{◌≡◌, ◌++◌, ◌∷◌, [], IfOk, IfSome, OnOk, map, true};
+ghost use Rattle.std.specs.Prelude.{◌≡◌, ◌++◌, ◌∷◌, [], IfOk, IfSome, OnOk, false, map, true};
 ghost use Rattle.hir_core.specs.Tree.{alternation, literal};
 ghost use Rattle.literal_search.specs.Literals.{ListsPrefix};
 ghost use Rattle.line_search.specs.FewerWords.{AreEnoughOf, HasFewerWords};
@@ -108,10 +108,15 @@ fn fewest_tree(alloc: Global, mut words: Vec<&[u8]>) -> Option<Hir>
     }
 }
 
-/// The tree with fewer words, if it is an alternation of words alone, some of them begin with others, and memory suffices.
-pub(crate) fn with_fewer_words(alloc: Global, tree: &Hir) -> Option<Hir>
-    ensures { IfSome result (λ x. HasFewerWords tree.now x) }
+/// The tree with fewer words, if it is an alternation of words alone, some of them begin with others, and memory suffices. There is none if
+/// matches are asked for.
+pub(crate) fn with_fewer_words(alloc: Global, tree: &Hir, with_matches: bool) -> Option<Hir>
+    ensures lines { IfSome result (λ x. with_matches ≡ false) }
+    ensures fewer { IfSome result (λ x. HasFewerWords tree.now x) }
 {
+    if with_matches {
+        return None;
+    }
     let HirKind::Alternation(parts) = tree.kind() else {
         return None;
     };

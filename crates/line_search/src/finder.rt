@@ -104,6 +104,7 @@ impl<'t> Finder<'t> {
         requires tree { IsTreeAskedFor patterns.now.0 patterns.now.1 with_matches tree.now }
         requires loops { with_matches ≡ true → LoopsRead tree.now }
         ensures sought { IfOk result (λ f. f ≡ record { how = patterns.now.0; texts = patterns.now.1; spans = with_matches }) }
+        ensures searches { IfOk result (λ f. SearchesFor f with_matches) }
         ensures refused { IfErr result (IsSearcherError patterns.now.0 patterns.now.1 with_matches) }
     {
         let searcher = match Searcher::new(alloc, tree) {
@@ -146,12 +147,9 @@ impl<'t> Finder<'t> {
             Ok(tree) => tree,
             Err(e) => return Err(e),
         };
-        if with_matches {
-            return Finder::of(alloc, patterns, tree, true);
-        }
-        match with_fewer_words(alloc, tree) {
-            Some(fewer) => Finder::of(alloc, patterns, &fewer, false),
-            None => Finder::of(alloc, patterns, tree, false),
+        match with_fewer_words(alloc, tree, with_matches) {
+            Some(fewer) => Finder::of(alloc, patterns, &fewer, with_matches),
+            None => Finder::of(alloc, patterns, tree, with_matches),
         }
     }
 
@@ -215,10 +213,14 @@ impl<'t> Finder<'t> {
         ensures same { self.new ≡ self.old }
         ensures next { IsNextLine self.old.how self.old.texts block.now at result }
     {
+        let strings = match &self.strings {
+            Some(tree) => Some(tree),
+            None => None,
+        };
         let Some(literals) = &mut self.literals else {
             return Reached::here(at);
         };
-        literals.next_candidate(block, at, self.strings.as_ref())
+        literals.next_candidate(block, at, strings)
     }
 
     /// Whether the last search for literals stopped in the line that starts at this offset.
