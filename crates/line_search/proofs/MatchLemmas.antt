@@ -79,13 +79,16 @@ HasNone xs line = (p : ℕ) (x : Tree) (i j : ℕ) → slice_get xs p ≡ Some x
     Means (line_looks is_word_char line) line x i j → ⊥
 
 -- then neither does the one tree
-none_of_whole : (x whole : Tree) (line : List ℕ) → (x ≡ whole) ⊎ HasFewerWords whole x → HasNone (x ∷ []) line → HasNone (whole ∷ []) line
-none_of_whole x whole line (inl same) none = subst (λ (t : Tree). HasNone (t ∷ []) line) same none
-none_of_whole x whole line (inr fewer) none zero y i j listed low high means =
+none_of_fewer : (x whole : Tree) (line : List ℕ) → HasFewerWords whole x → HasNone (x ∷ []) line → HasNone (whole ∷ []) line
+none_of_fewer x whole line fewer none zero y i j listed low high means =
     let it = span_of_fewer (line_looks is_word_char line) line i whole x j fewer
     (subst (λ (t : Tree). Means (line_looks is_word_char line) line t i j) (sym (same_Some whole y listed)) means) in
     none zero x i it.0 refl low (span_within (line_looks is_word_char line) line x i it.0 low it.1) it.1
-none_of_whole x whole line (inr fewer) none (suc p) y i j listed low high means = absurd (none-some y listed)
+none_of_fewer x whole line fewer none (suc p) y i j listed low high means = absurd (none-some y listed)
+
+none_of_whole : (x whole : Tree) (line : List ℕ) → (x ≡ whole) ⊎ HasFewerWords whole x → HasNone (x ∷ []) line → HasNone (whole ∷ []) line
+none_of_whole x whole line (inl same) none = subst (λ (t : Tree). HasNone (t ∷ []) line) same none
+none_of_whole x whole line (inr fewer) none = none_of_fewer x whole line fewer none
 
 -- the pattern with one bound around all has a match where the patterns have one
 has_whole : (how : PatternOptions) (res : List Re) (line : List ℕ) → All (λ b. b < 256) line →
