@@ -35,7 +35,7 @@ use Rattle.pattern_search.specs.Texts.{AreReadAs}
 use Rattle.pattern_search.specs.Searches.{whole_query}
 use Rattle.pattern_search.proofs.ForCallers.{alike_some, answer_is_loose}
 use Rattle.line_search.specs.Bounded.{line_pattern}
-use Rattle.line_search.specs.BoundedTrees.{IsTreeOf}
+use Rattle.line_search.specs.BoundedTrees.{IsTreeForLines}
 use Rattle.line_search.specs.Meant.{line_config}
 use Rattle.line_search.specs.declared.candidates.Stop.{Stop}
 use Rattle.line_search.specs.declared.patterns.PatternOptions.{PatternOptions}
@@ -46,38 +46,13 @@ use Rattle.line_search.specs.Lines.{ended, searched, split_lines}
 use Rattle.line_search.specs.Patterns.{has_match_in}
 use Rattle.line_search.specs.Searchers.{IsResized, line_settings}
 use Rattle.regex_pair.specs.Pairs.{Pair}
-use Rattle.line_search.proofs.BoundedTreeLemmas.{starts_of}
 use Rattle.line_search.proofs.FeedPlaceLemmas.{is_feed, first_at, first_within, one_more, some_at, feed_there}
 use Rattle.line_search.proofs.LineCutLemmas.{IsSearchedIn, StandsIn, before_start, lines_between, searched_in}
-use Rattle.line_search.proofs.ToldLemmas.{is_search}
-use Rattle.line_search.proofs.WholePatternLemmas.{find_same, whole_is_each, whole_pattern}
+use Rattle.line_search.proofs.MatchLemmas.{HasNone, has_of, no_match, only_tree}
 
 -- of the spans that these trees mean in the block from the first offset on, none ends before the second one
 abbrev pub EndNotBefore : List Tree → List ℕ → ℕ → ℕ → Type 0
 EndNotBefore xs block at place = NoneEndsBefore xs (looks_by is_word_char line_settings block) block at (length block) place
-
--- no tree means a span of the line
-abbrev HasNone : List Tree → List ℕ → Type 0
-HasNone xs line = (p : ℕ) (x : Tree) (i j : ℕ) → slice_get xs p ≡ Some x → i ≤ length line → j ≤ length line →
-    Means (line_looks is_word_char line) line x i j → ⊥
-
--- the pattern with one bound around all has a match where the patterns have one
-has_whole : (how : PatternOptions) (res : List Re) (line : List ℕ) → All (λ b. b < 256) line →
-    is_some (find (alt_all (whole_pattern how res ∷ [])) line 0) ≡ has_match_in how res line
-has_whole how res line bytes =
-    ap is_some (find_same (alt_all (whole_pattern how res ∷ [])) (line_pattern how res) (whole_is_each how res) line bytes 0)
-
--- then the line has no match
-no_match : (how : PatternOptions) (texts : List (List ℕ)) (t : Tree) (res : List Re) (line : List ℕ) → IsTreeOf how texts t →
-    AreReadAs (line_config how) texts res → All (λ b. b < 256) line → HasNone (t ∷ []) line → has_match_in how res line ≡ false
-no_match how texts t res line mean read bytes none =
-    let nothing : option_map (λ m. m.start) (find (alt_all (whole_pattern how res ∷ [])) line 0)
-    ≡ option_map (λ (f : Found). f.start) None =
-    (starts_of how texts t mean res read).loose line 0 (is_search (t ∷ []) line bytes) None (λ i p j starts it.
-    none p it.findable.span.tree i j it.findable.span.listed
-    (starts_at No 0 (length line) i starts).to_last it.findable.within it.findable.span.means) in
-    sym (has_whole how res line bytes)
-    ∙ alike_some (λ m. m.start) (λ (f : Found). f.start) (find (alt_all (whole_pattern how res ∷ [])) line 0) None nothing
 
 of_listed : (P : Tree → Type 0) (xs : List Tree) (p : ℕ) (x : Tree) → slice_get xs p ≡ Some x → All P xs → P x
 of_listed P xs p x listed all = subst P (get_or_from_slice_get xs p x x listed) (all p x (slice_get_within xs p x listed))
@@ -130,7 +105,7 @@ none_of_tree false x line none = none_wordless x line none
 
 -- no line that ends before the offset has a match
 pub have_none_of : (how : PatternOptions) (texts : List (List ℕ)) (tree : Tree) (exact : Bool) (block text : List ℕ) (at x : ℕ) →
-    IsTreeOf how texts tree → has_crlf tree ≡ false → All (λ b. b < 256) block →
+    IsTreeForLines how texts tree → has_crlf tree ≡ false → All (λ b. b < 256) block →
     EndNotBefore (line_tree how.crlf (searched_tree exact tree) ∷ []) block at x → All (StandsIn block at x) (split_lines text) →
     HaveNoMatch how texts text
 have_none_of how texts tree exact block text at x mean plain bytes least all res read k line below =
@@ -254,37 +229,6 @@ module _ (how : PatternOptions) (texts : List (List ℕ)) (p : BlockRegex) (bloc
   ]
 
 -- ---- a line that is known to have a match
--- an answer that is none says that there is no span
-no_answer : (xs : List Tree) (line : List ℕ) (o : Option Found) → IsLooseAnswer (whole_query false xs line) 0 o → is_some o ≡ false →
-    IsLooseAnswer (whole_query false xs line) 0 None
-no_answer xs line None loose none = loose
-no_answer xs line (Some f) loose none = cc
-
--- if a tree means a span of the line, the line has a match
-has_of : (how : PatternOptions) (texts : List (List ℕ)) (t : Tree) (res : List Re) (line : List ℕ) → IsTreeOf how texts t →
-    AreReadAs (line_config how) texts res → All (λ b. b < 256) line → (p : ℕ) (x : Tree) (i j : ℕ) → slice_get (t ∷ []) p ≡ Some x →
-    i ≤ length line → j ≤ length line →
-    Means (line_looks is_word_char line) line x i j → (has : Bool) → has_match_in how res line ≡ has → true ≡ has_match_in how res line
-has_of how texts t res line mean read bytes p x i j listed low high means true is = sym is
-has_of how texts t res line mean read bytes p x i j listed low high means false is =
-    let none : is_some (answer_from (whole_query false (t ∷ []) line) 0) ≡ false =
-    sym (alike_some (λ m. m.start) (λ (f : Found). f.start) (find (alt_all (whole_pattern how res ∷ [])) line 0)
-    (answer_from (whole_query false (t ∷ []) line) 0)
-    ((starts_of how texts t mean res read).preferred line 0 (is_search (t ∷ []) line bytes)))
-    ∙ has_whole how res line bytes ∙ is in
-    absurd (no_answer (t ∷ []) line (answer_from (whole_query false (t ∷ []) line) 0)
-    (answer_is_loose (whole_query false (t ∷ []) line) 0) none i p j
-    (may_start_at No 0 (length line) i (omega arith) (omega arith) low)
-    (record {
-      findable = record {
-        may = lt-ltb p (length (t ∷ [])) (slice_get_within (t ∷ []) p x listed);
-        span = record { tree = x; listed = listed; means = means };
-        within = high;
-      };
-      start_counts = refl;
-      end_counts = refl;
-    }))
-
 -- the tree of a line tree
 tree_of_line : (xs : List Tree) (p : ℕ) (y : Tree) (o : Option Tree) → slice_get xs p ≡ o → option_map (line_tree false) o ≡ Some y →
     (x : Tree) × (slice_get xs p ≡ Some x) × (line_tree false x ≡ y)
@@ -331,7 +275,7 @@ line_tree_of xs block at place end =
 
 -- a span that starts in a line and ends before the end of that line is one of the line
 pub match_in : (how : PatternOptions) (texts : List (List ℕ)) (tree : Tree) (block : List ℕ) (start from place : ℕ) →
-    IsTreeOf how texts tree → has_crlf tree ≡ false → how.crlf ≡ false → All (λ b. b < 256) block → IsLineStart block start →
+    IsTreeForLines how texts tree → has_crlf tree ≡ false → how.crlf ≡ false → All (λ b. b < 256) block → IsLineStart block start →
     start ≤ length block → Means (looks_by is_word_char line_settings block) block (line_tree false tree) from place → start ≤ from →
     HasNoFeedFrom block start place → HasMatchAt how texts block start
 match_in how texts tree block start from place mean plain lone bytes starts inside span after none len found res read =
@@ -364,14 +308,8 @@ match_in how texts tree block start from place mean plain lone bytes starts insi
     has_of how texts tree res (take len text) mean read
     (All-left (λ b. b < 256) (take len text) (drop len text)
     (All-right (λ b. b < 256) (take start block) _ (subst (All (λ b. b < 256)) whole bytes)))
-    zero tree (from - start) (place - start) refl (omega (arith, forward, short)) short means
-    (has_match_in how res (take len text)) refl
+    (from - start) (place - start) (omega (arith, forward, short)) short means
     ∙ sym (ap (λ v. has_match_in how res (searched v (ended (take len text)))) lone)
-
--- the only tree of a list of one
-only_tree : (t : Tree) (p : ℕ) (x : Tree) → slice_get (t ∷ []) p ≡ Some x → x ≡ t
-only_tree t zero x listed = sym (same_Some t x listed)
-only_tree t (suc p) x listed = absurd (none-some x listed)
 
 -- and so is a span of the line tree of the patterns that ends a search
 match_here : (how : PatternOptions) (texts : List (List ℕ)) (p : BlockRegex) (block : List ℕ) (at start place : ℕ) →

@@ -16,6 +16,7 @@ use Rattle.pattern_text.specs.SameEnds.{AreSameEnds, AreSameSpans}
 use Rattle.pattern_search.specs.RegexAnswers.{AnswersAsRead}
 use Rattle.pattern_search.specs.Searches.{span_of_found, span_of_match, whole_search}
 use Rattle.line_search.specs.Bounded.{line_pattern}
+use Rattle.line_search.specs.BoundedTrees.{IsTreeOf}
 use Rattle.line_search.specs.Fallbacks.{next_after}
 use Rattle.line_search.specs.FoundSpans.{IsFoundSpan}
 use Rattle.line_search.specs.Searchers.{IsSearcherOf, sized_settings}
@@ -34,11 +35,11 @@ pub found_told : (how : PatternOptions) (texts : List (List ℕ)) (p : Pair) (c 
     (reported : Option (ℕ × ℕ)) →
     ((res : List Re) (xs : List Tree) (k : Option ℕ) → AreSameEnds res xs → AreSameSpans res xs → IsBuilt xs (sized_settings k) p →
     AnswersAsRead res xs (sized_settings k) p) →
-    (it : IsSearcherOf how texts p) → LoopsRead it.tree → All (λ b. b < 256) line → AnswersPair p c (whole_search line at) (Ok o) →
+    (it : IsSearcherOf how texts p) → IsTreeOf how texts it.tree → LoopsRead it.tree → All (λ b. b < 256) line → AnswersPair p c (whole_search line at) (Ok o) →
     reported ≡ option_map span_of_found o → IsFoundSpan how texts line at reported
-found_told how texts p c line at o reported law it loops bytes answer is res read =
-    let answers = law (whole_pattern how res ∷ []) (it.tree ∷ []) it.capacity (ends_of how texts it.tree it.mean res read)
-    (spans_of how texts it.tree it.mean res read) it.built in
+found_told how texts p c line at o reported law it mean loops bytes answer is res read =
+    let answers = law (whole_pattern how res ∷ []) (it.tree ∷ []) it.capacity (ends_of how texts it.tree mean res read)
+    (spans_of how texts it.tree mean res read) it.built in
     let all = All-cons LoopsRead it.tree [] loops (All-nil LoopsRead) in
     is
     ∙ sym (answers.found all line at (is_search_from (it.tree ∷ []) line at bytes) c o answer)

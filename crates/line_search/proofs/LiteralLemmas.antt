@@ -13,7 +13,7 @@ use Rattle.line_trees.proofs.ForCallers.{feeds_kept, reads_none}
 use Rattle.earliest_ends.specs.Earliest.{looks_by}
 use Rattle.literal_search.specs.Searches.{EndsFrom, StartsNowhere, IsNextEnd}
 use Rattle.line_search.specs.declared.patterns.PatternOptions.{PatternOptions}
-use Rattle.line_search.specs.BoundedTrees.{IsTreeOf}
+use Rattle.line_search.specs.BoundedTrees.{IsTreeForLines}
 use Rattle.line_search.specs.Candidates.{IsLineStart, IsNextLine, HasMatchAt, HaveNoMatch}
 use Rattle.line_search.specs.LiteralLines.{AreLiteralsOf, HasStringsOf, has_any_string_at, has_string_at}
 use Rattle.line_search.specs.Searchers.{line_settings}
@@ -56,7 +56,7 @@ string_meant looks h at never there = absurd (true≢false (sym there))
 
 -- a line with a string of the tree has a match
 string_known : (how : PatternOptions) (texts : List (List ℕ)) (tree : Tree) (block : List ℕ) (start place : ℕ) →
-    IsTreeOf how texts tree → has_crlf tree ≡ false → how.crlf ≡ false → reads_feed tree ≡ false → All (λ b. b < 256) block →
+    IsTreeForLines how texts tree → has_crlf tree ≡ false → how.crlf ≡ false → reads_feed tree ≡ false → All (λ b. b < 256) block →
     IsLineStart block start → start ≤ length block → start ≤ place → HasNoFeedFrom block start place →
     has_string_at block place tree ≡ true → HasMatchAt how texts block start
 string_known how texts tree block start place mean plain lone feedless bytes starts inside after none there =

@@ -2,12 +2,13 @@
 use Rattle.std.proofs.Common.{◌≡◌, ℕ, Bool, true, List, [], ◌∷◌, Some}
 use Rattle.hir_core.specs.Facts.{LoopsRead}
 use Rattle.regex_pair.specs.Pairs.{Pair}
+use Rattle.line_search.specs.BoundedTrees.{IsTreeOf}
 use Rattle.line_search.specs.declared.patterns.PatternOptions.{PatternOptions}
 use Rattle.line_search.specs.Searchers.{IsResized, IsSearcherOf}
 
 -- what a finder knows of its searcher
 abbrev pub IsOwn : PatternOptions → List (List ℕ) → Bool → Pair → Type 0
-IsOwn how texts spans p = (it : IsSearcherOf how texts p) × (spans ≡ true → LoopsRead it.tree)
+IsOwn how texts spans p = (it : IsSearcherOf how texts p) × (spans ≡ true → IsTreeOf how texts it.tree × LoopsRead it.tree)
 
 -- and of one with larger caches
 pub own_resized : (how : PatternOptions) (texts : List (List ℕ)) (spans : Bool) (p q : Pair) (bytes : ℕ) → IsResized bytes p q →

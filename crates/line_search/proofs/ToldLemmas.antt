@@ -1,28 +1,26 @@
 -- What is reported of a line, by what searches promise.
-use Rattle.std.proofs.Common.{map, ◌≡◌, ◌<◌, ℕ, true, false, List, [], ◌∷◌, All, Option, Ok, ap, sym, ◌∙◌, refl}
+use Rattle.std.proofs.Common.{map, ◌≡◌, ◌<◌, ℕ, true, false, List, [], ◌∷◌, All, Option, ap, sym, ◌∙◌, refl}
 use Rattle.std.proofs.Common.{arith}
 use Rattle.std.proofs.lemmas.List.Elements.{All-nil, All-cons}
-use Rattle.std.specs.Prelude.{is_some}
 use Rattle.regex_hir.specs.Meaning.{alt_all}
 use Rattle.regex_hir.specs.Re.{Re}
 use Rattle.hir_core.specs.Tree.{Tree}
 use Rattle.search_types.specs.Found.{Found}
-use Rattle.regex_pair.specs.Pairs.{Pair, PairCache}
-use Rattle.regex_pair.specs.PairAnswers.{AnswersPair}
+use Rattle.regex_pair.specs.Pairs.{Pair}
 use Rattle.regex_pair.specs.Taken.{IsWholeList}
 use Rattle.hir_regex.specs.Built.{IsBuilt}
 use Rattle.hir_regex.specs.Regexes.{IsSearchOf}
 use Rattle.pattern_search.specs.Searches.{whole_search}
 use Rattle.pattern_text.specs.SameEnds.{AreSameEnds, AreSameSpans}
 use Rattle.pattern_search.specs.RegexAnswers.{AnswersAsRead}
-use Rattle.pattern_search.proofs.ForCallers.{alike_some}
 use Rattle.line_search.specs.Bounded.{line_pattern}
+use Rattle.line_search.specs.BoundedTrees.{IsTreeOf}
 use Rattle.line_search.specs.declared.patterns.PatternOptions.{PatternOptions}
 use Rattle.line_search.proofs.BoundedTreeLemmas.{ends_of, spans_of}
-use Rattle.line_search.proofs.WholePatternLemmas.{find_all_same, find_same, whole_is_each, whole_pattern}
+use Rattle.line_search.proofs.WholePatternLemmas.{find_all_same, whole_is_each, whole_pattern}
 use Rattle.hir_core.specs.Facts.{LoopsRead}
 use Rattle.pattern_search.specs.Searches.{span_of_found, span_of_match}
-use Rattle.line_search.specs.Searchers.{IsSearcherOf, IsMatchReported, AreReported, sized_settings}
+use Rattle.line_search.specs.Searchers.{IsSearcherOf, AreReported, sized_settings}
 
 -- any line of bytes is searched, whatever the trees
 pub is_search : (xs : List Tree) (line : List ℕ) → All (λ b. b < 256) line → IsSearchOf xs false (whole_search line 0)
@@ -34,25 +32,14 @@ is_search xs line bytes = record {
   utf8_trees = λ e. let never : false ≡ true = e in absurd (grind (arith, never));
 }
 
-pub progress_of : (how : PatternOptions) (texts : List (List ℕ)) (p : Pair) (c : PairCache) (line : List ℕ) (o : Option Found) →
-    ((res : List Re) (xs : List Tree) (k : Option ℕ) → AreSameEnds res xs → AreSameSpans res xs → IsBuilt xs (sized_settings k) p →
-    AnswersAsRead res xs (sized_settings k) p) →
-    IsSearcherOf how texts p → All (λ b. b < 256) line → AnswersPair p c (whole_search line 0) (Ok o) →
-    IsMatchReported how texts line (is_some o)
-progress_of how texts p c line o law it bytes answer res read =
-    let answers = law (whole_pattern how res ∷ []) (it.tree ∷ []) it.capacity (ends_of how texts it.tree it.mean res read)
-    (spans_of how texts it.tree it.mean res read) it.built in
-    sym (alike_some _ _ _ _ (answers.starts line 0 (is_search (it.tree ∷ []) line bytes) c o answer))
-    ∙ ap is_some (find_same (alt_all (whole_pattern how res ∷ [])) (line_pattern how res) (whole_is_each how res) line bytes 0)
-
 pub all_told : (how : PatternOptions) (texts : List (List ℕ)) (p : Pair) (line : List ℕ) (fs : List Found) (reported : List (ℕ × ℕ)) →
     ((res : List Re) (xs : List Tree) (k : Option ℕ) → AreSameEnds res xs → AreSameSpans res xs → IsBuilt xs (sized_settings k) p →
     AnswersAsRead res xs (sized_settings k) p) →
-    (it : IsSearcherOf how texts p) → LoopsRead it.tree → All (λ b. b < 256) line → IsWholeList p (whole_search line 0) fs →
+    (it : IsSearcherOf how texts p) → IsTreeOf how texts it.tree → LoopsRead it.tree → All (λ b. b < 256) line → IsWholeList p (whole_search line 0) fs →
     reported ≡ map span_of_found fs → AreReported how texts line reported
-all_told how texts p line fs reported law it loops bytes l spans res read =
-    let answers = law (whole_pattern how res ∷ []) (it.tree ∷ []) it.capacity (ends_of how texts it.tree it.mean res read)
-    (spans_of how texts it.tree it.mean res read) it.built in
+all_told how texts p line fs reported law it mean loops bytes l spans res read =
+    let answers = law (whole_pattern how res ∷ []) (it.tree ∷ []) it.capacity (ends_of how texts it.tree mean res read)
+    (spans_of how texts it.tree mean res read) it.built in
     let all = All-cons LoopsRead it.tree [] loops (All-nil LoopsRead) in
     spans
     ∙ sym (answers.all all line (is_search (it.tree ∷ []) line bytes) fs l.old l.new l.regex l.taken l.over)

@@ -14,7 +14,7 @@ use Rattle.hir_regex.specs.Built.{IsBuilt, quit_bytes_for}
 use Rattle.hir_regex.specs.Headline.{IsQuitNextTo}
 use Rattle.earliest_ends.specs.Earliest.{HasNoSpan, NoneEndsBefore, IsLeastEnd, earliest_search, looks_by}
 use Rattle.pattern_search.specs.Texts.{AreReadAs}
-use Rattle.line_search.specs.BoundedTrees.{IsTreeOf}
+use Rattle.line_search.specs.BoundedTrees.{IsTreeForLines}
 use Rattle.line_search.specs.Meant.{line_config}
 use Rattle.line_search.specs.declared.candidates.Reached.{Reached}
 use Rattle.line_search.specs.declared.patterns.PatternOptions.{PatternOptions}
@@ -35,13 +35,13 @@ pub record BlockRegex : Type 0 where
 abbrev pub searched_tree : Bool → Tree → Tree
 searched_tree exact x = if exact then x else wordless_tree x
 
--- The regex is built from the line tree of the one tree of these patterns, or of that tree without its looks at words by characters. The
+-- The regex is built from the line tree of a tree that suffices for lines, or of that tree without its looks at words by characters. The
 -- tree has no look-around assertion about carriage returns. If the regex is marked as feedless, the tree consumes no line feed, so a match
 -- in a block lies in one line.
 pub record IsCandidatesOf (how : PatternOptions) (texts : List (List ℕ)) (p : BlockRegex) : Type 0 where
   pub same : p.crlf ≡ how.crlf
   pub tree : Tree
-  pub mean : IsTreeOf how texts tree
+  pub mean : IsTreeForLines how texts tree
   pub plain : has_crlf tree ≡ false
   pub feedless : p.feedless ≡ true → reads_feed tree ≡ false
   pub capacity : Option ℕ

@@ -3,6 +3,7 @@ pub mod BoundedTrees
 pub mod Candidates
 pub mod Edges
 pub mod Fallbacks
+pub mod FewerWords
 pub mod FoundSpans
 pub mod Groups
 pub mod Joined

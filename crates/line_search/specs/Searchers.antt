@@ -13,7 +13,7 @@ use Rattle.hir_regex.specs.Built.{IsBuilt, FailsBuild, default_settings, program
 use Rattle.hir_regex.specs.Loops.{first_empty_loop}
 use Rattle.pattern_search.specs.Searches.{whole_search}
 use Rattle.pattern_search.specs.Texts.{AllMean, AreReadAs, IsFirstFault}
-use Rattle.line_search.specs.BoundedTrees.{IsTreeOf}
+use Rattle.line_search.specs.BoundedTrees.{IsTreeAskedFor, IsTreeForLines}
 use Rattle.line_search.specs.Meant.{line_config}
 use Rattle.line_search.specs.declared.patterns.PatternOptions.{PatternOptions}
 use Rattle.line_search.specs.declared.searcher.SearcherError.{SearcherError}
@@ -31,10 +31,10 @@ line_settings = record (program_settings (record default_settings { utf8 = false
 abbrev pub sized_settings : Option ℕ → Settings
 sized_settings capacity = record line_settings { dfa = record (line_settings.dfa) { cache_capacity = capacity } }
 
--- The regex is built from the one tree of these patterns, with any capacity of its caches.
+-- The regex is built from a tree that suffices to find the lines that these patterns match, with any capacity of its caches.
 pub record IsSearcherOf (how : PatternOptions) (texts : List (List ℕ)) (p : Pair) : Type 0 where
   pub tree : Tree
-  pub mean : IsTreeOf how texts tree
+  pub mean : IsTreeForLines how texts tree
   pub capacity : Option ℕ
   pub built : IsBuilt (tree ∷ []) (sized_settings capacity) p
 
@@ -81,11 +81,11 @@ abbrev pub found_by : {s : Sought} {spans : Bool} → SearchesFor s spans → Li
 found_by by = finds_of by.how by.names by.patterns
 
 -- Why no searcher is built from patterns. With `Text`, this is the first pattern that can't be parsed. With `EmptyLoop`, matches are asked
--- for, and this is the first pattern with an empty loop. With `Build`, no regex can be built from the one tree of the patterns, or memory
--- ran out.
+-- for, and this is the first pattern with an empty loop. With `Build`, no regex can be built from the tree that is asked for, or memory ran
+-- out.
 abbrev pub IsSearcherError : PatternOptions → List (List ℕ) → Bool → SearcherError → Type 0
 IsSearcherError how texts spans (Text e) = IsFirstFault (line_config how) texts e.number e.error
 IsSearcherError how texts spans (EmptyLoop number) =
     (spans ≡ true) × ((xs : List Tree) × AllMean (line_config how) texts xs × (first_empty_loop xs ≡ Some number))
 IsSearcherError how texts spans (Build e) = (e ≡ NoMemory) ⊎
-    ((x : Tree) × IsTreeOf how texts x × FailsBuild (x ∷ []) line_settings e)
+    ((x : Tree) × IsTreeAskedFor how texts spans x × FailsBuild (x ∷ []) line_settings e)

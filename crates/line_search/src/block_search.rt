@@ -1,7 +1,7 @@
 //! Searches blocks of lines by automata whose caches grow.
 ghost use Rattle.std.specs.Prelude.{◌≡◌, ◌≤◌, ◌∷◌, [], IfOk, IfSome, length};
 ghost use Rattle.hir_regex.specs.Built.{IsBuilt};
-ghost use Rattle.line_search.specs.BoundedTrees.{IsTreeOf};
+ghost use Rattle.line_search.specs.BoundedTrees.{IsTreeForLines};
 ghost use Rattle.line_search.specs.Candidates.{IsCandidatesOf, IsLineStart, IsNextLine};
 ghost use Rattle.line_search.specs.Searchers.{line_settings};
 
@@ -44,7 +44,7 @@ fn exact_candidates(
     tree: &Hir,
     lines: &Searcher,
 ) -> Option<Candidates>
-    requires tree { IsTreeOf patterns.now.0 patterns.now.1 tree.now }
+    requires tree { IsTreeForLines patterns.now.0 patterns.now.1 tree.now }
     requires lines { IsBuilt (tree.now ∷ []) line_settings lines.now.0 }
     ensures { IfSome result (λ c. IsCandidatesOf patterns.now.0 patterns.now.1 c.0) }
 {
@@ -84,7 +84,7 @@ impl<'t> BlockSearch<'t> {
         tree: &Hir,
         lines: &Searcher,
     ) -> BlockSearch<'t>
-        requires tree { IsTreeOf patterns.now.0 patterns.now.1 tree.now }
+        requires tree { IsTreeForLines patterns.now.0 patterns.now.1 tree.now }
         requires lines { IsBuilt (tree.now ∷ []) line_settings lines.now.0 }
         ensures { result ≡ patterns.now }
     {

@@ -1,7 +1,7 @@
 //! Finds the lines of blocks that may have a match, in inputs of any script.
 ghost use Rattle.std.specs.Prelude.{◌≡◌, ◌≤◌, ◌∷◌, [], IfOk, length};
 ghost use Rattle.hir_regex.specs.Built.{IsBuilt};
-ghost use Rattle.line_search.specs.BoundedTrees.{IsTreeOf};
+ghost use Rattle.line_search.specs.BoundedTrees.{IsTreeForLines};
 ghost use Rattle.line_search.specs.Candidates.{IsLineStart, IsNextLine};
 ghost use Rattle.line_search.specs.Searchers.{line_settings};
 
@@ -48,7 +48,7 @@ impl<'t> CandidateFinder<'t> {
         tree: &Hir,
         lines: &Searcher,
     ) -> CandidateFinder<'t>
-        requires tree { IsTreeOf patterns.now.0 patterns.now.1 tree.now }
+        requires tree { IsTreeForLines patterns.now.0 patterns.now.1 tree.now }
         requires lines { IsBuilt (tree.now ∷ []) line_settings lines.now.0 }
         ensures { result ≡ patterns.now }
     {

@@ -7,7 +7,7 @@ ghost use Rattle.line_trees.specs.LineTrees.{line_tree, has_crlf, HasNoFeedFrom}
 ghost use Rattle.hir_regex.specs.Built.{IsBuilt, FailsBuild};
 ghost use Rattle.ucd_perl.specs.Perl.{is_word_char};
 ghost use Rattle.earliest_ends.specs.Earliest.{IsEarliestEnd, IsEarliestError, looks_by};
-ghost use Rattle.line_search.specs.BoundedTrees.{IsTreeOf};
+ghost use Rattle.line_search.specs.BoundedTrees.{IsTreeForLines};
 ghost use Rattle.line_search.specs.declared.patterns.PatternOptions.{PatternOptions};
 ghost use Rattle.line_search.specs.Candidates.{IsCandidatesOf, IsLineStart, HaveNoMatch, HasMatchAt, IsStop, IsStopIfAny};
 ghost use Rattle.line_search.specs.Candidates.{IsEnd, searched_tree, StopsInLine};
@@ -243,7 +243,7 @@ impl Candidates {
         crlf: bool,
     ) -> Result<Option<Candidates>, AllocError>
         ensures some { IfOk result (λ o. is_some o ≡ not (has_crlf tree.now)) }
-        ensures candidates { (how : PatternOptions) (texts : List (List ℕ)) → how.crlf ≡ crlf → IsTreeOf how texts tree.now →
+        ensures candidates { (how : PatternOptions) (texts : List (List ℕ)) → how.crlf ≡ crlf → IsTreeForLines how texts tree.now →
             IsBuilt (line_tree crlf (searched_tree exact tree.now) ∷ []) line_settings regex.value →
             IfOk result (λ o. IfSome o (λ c. IsCandidatesOf how texts c.0)) }
     {

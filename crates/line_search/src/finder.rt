@@ -1,5 +1,7 @@
 //! Finds patterns by literals and automata. Where automata give up at a quit byte, a program of the toolchain for the same patterns answers.
 ghost use Rattle.std.specs.Prelude.{◌≡◌, IfErr, IfOk, map, option_map, true, ◌≤◌, length};
+ghost use Rattle.hir_core.specs.Facts.{LoopsRead};
+ghost use Rattle.line_search.specs.BoundedTrees.{IsTreeAskedFor};
 ghost use Rattle.line_search.specs.Candidates.{IsLineStart, IsNextLine};
 ghost use Rattle.line_search.specs.FoundSpans.{IsNextSpan, IsFoundSpan};
 ghost use Rattle.line_search.specs.LineMatchers.{span_pair};
@@ -8,6 +10,7 @@ ghost use Rattle.line_search.specs.Searchers.{AreReplaced, IsMatchReported, AreR
 use crate::candidate_finder::CandidateFinder;
 use crate::candidates::Reached;
 use crate::fault::Fault;
+use crate::fewer_words::with_fewer_words;
 use crate::line_patterns::LinePatterns;
 use crate::literal_lines::{LiteralLines, line_end};
 use crate::replacing::Replaced;
@@ -43,7 +46,7 @@ pub struct Finder<'t> {
     /// The literals of which each match contains one, if useful ones are known.
     literals: Option<LiteralLines>,
     /// The tree of the patterns, if a line with one of its strings is known to have a match.
-    strings: Option<&'t Hir>,
+    strings: Option<Hir>,
     candidates: CandidateFinder<'t>,
     /// The size of the caches of the search of lines.
     line_size: Size,
@@ -58,6 +61,7 @@ pub struct Finder<'t> {
 impl<'t> Model for Finder<'t> {
     ghost use Rattle.std.specs.Prelude.{◌≡◌, IfSome, true};
     ghost use Rattle.hir_core.specs.Facts.{LoopsRead};
+    ghost use Rattle.line_search.specs.BoundedTrees.{IsTreeOf};
     ghost use Rattle.line_search.specs.LiteralLines.{AreLiteralsOf, HasStringsOf};
     ghost use Rattle.line_search.specs.Searchers.{IsSearcherOf, Sought};
 
@@ -66,11 +70,11 @@ impl<'t> Model for Finder<'t> {
     ghost view = { λ f. record { how = f.patterns.now.0; texts = f.patterns.now.1; spans = f.with_matches } };
 
     ghost invariant = { λ f.
-        ((it : IsSearcherOf f.patterns.now.0 f.patterns.now.1 f.searcher.0) × (f.with_matches ≡ true → LoopsRead it.tree))
+        ((it : IsSearcherOf f.patterns.now.0 f.patterns.now.1 f.searcher.0) × (f.with_matches ≡ true → IsTreeOf f.patterns.now.0 f.patterns.now.1 it.tree × LoopsRead it.tree))
         × (f.slow ≡ f.patterns.now)
         × (f.candidates ≡ f.patterns.now)
         × IfSome f.literals (AreLiteralsOf f.patterns.now.0 f.patterns.now.1)
-        × IfSome f.strings (λ x. HasStringsOf f.patterns.now.0 f.patterns.now.1 x.now) };
+        × IfSome f.strings (HasStringsOf f.patterns.now.0 f.patterns.now.1) };
 }
 
 /// Whether a search failed because it ran out of memory.
@@ -90,6 +94,40 @@ fn end_of(found: Option<Span>, end: usize) -> usize {
 }
 
 impl<'t> Finder<'t> {
+    /// Builds a finder that searches for this tree.
+    fn of(
+        alloc: Global,
+        patterns: &'t LinePatterns<'t>,
+        tree: &Hir,
+        with_matches: bool,
+    ) -> Result<Finder<'t>, SearcherError>
+        requires tree { IsTreeAskedFor patterns.now.0 patterns.now.1 with_matches tree.now }
+        requires loops { with_matches ≡ true → LoopsRead tree.now }
+        ensures sought { IfOk result (λ f. f ≡ record { how = patterns.now.0; texts = patterns.now.1; spans = with_matches }) }
+        ensures searches { IfOk result (λ f. SearchesFor f with_matches) }
+        ensures refused { IfErr result (IsSearcherError patterns.now.0 patterns.now.1 with_matches) }
+    {
+        let searcher = match Searcher::new(alloc, tree) {
+            Ok(searcher) => searcher,
+            Err(e) => return Err(SearcherError::Build(e)),
+        };
+        let literals = LiteralLines::new(alloc, tree, patterns.how().crlf);
+        let candidates = CandidateFinder::new(alloc, patterns, tree, &searcher);
+        Ok(Finder {
+            searcher,
+            patterns,
+            with_matches,
+            slow: SlowSearch::new(patterns),
+            literals,
+            strings: strings_of(alloc, tree, patterns.how().crlf),
+            candidates,
+            line_size: Size::first(),
+            past_clears: 0,
+            room: Vec::new(alloc),
+            reads: 0,
+        })
+    }
+
     /// Builds a finder for patterns. It may be asked for matches, or only for whether there is one. It searches any bytes, whether they are
     /// UTF-8 or not. Each pattern is parsed by itself, and the result is then bounded as `how` asks. So nothing in a pattern can affect
     /// what is put around it.
@@ -109,25 +147,10 @@ impl<'t> Finder<'t> {
             Ok(tree) => tree,
             Err(e) => return Err(e),
         };
-        let searcher = match Searcher::new(alloc, tree) {
-            Ok(searcher) => searcher,
-            Err(e) => return Err(SearcherError::Build(e)),
-        };
-        let literals = LiteralLines::new(alloc, tree, patterns.how().crlf);
-        let candidates = CandidateFinder::new(alloc, patterns, tree, &searcher);
-        Ok(Finder {
-            searcher,
-            patterns,
-            with_matches,
-            slow: SlowSearch::new(patterns),
-            literals,
-            strings: strings_of(tree, patterns.how().crlf),
-            candidates,
-            line_size: Size::first(),
-            past_clears: 0,
-            room: Vec::new(alloc),
-            reads: 0,
-        })
+        match with_fewer_words(alloc, tree, with_matches) {
+            Some(fewer) => Finder::of(alloc, patterns, &fewer, with_matches),
+            None => Finder::of(alloc, patterns, tree, with_matches),
+        }
     }
 
     /// Takes the room for the bytes of an input. Returns it, and how many reads there were into it.
@@ -190,7 +213,10 @@ impl<'t> Finder<'t> {
         ensures same { self.new ≡ self.old }
         ensures next { IsNextLine self.old.how self.old.texts block.now at result }
     {
-        let strings = self.strings;
+        let strings = match &self.strings {
+            Some(tree) => Some(tree),
+            None => None,
+        };
         let Some(literals) = &mut self.literals else {
             return Reached::here(at);
         };

@@ -82,7 +82,7 @@ fn parts_of(alloc: Global, trees: Vec<Hir>) -> Result<Vec<Hir>, AllocError>
 }
 
 /// The alternation of the parts. If there is one part, it is that part.
-fn one_or_all(mut parts: Vec<Hir>) -> Hir
+pub(crate) fn one_or_all(mut parts: Vec<Hir>) -> Hir
     ensures { result ≡ one_or_all parts.items }
 {
     if parts.len() != 1 {

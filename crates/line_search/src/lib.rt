@@ -14,6 +14,7 @@ mod edges;
 mod fallback;
 mod fault;
 mod feeds;
+mod fewer_words;
 mod finder;
 mod joining;
 pub mod laws;

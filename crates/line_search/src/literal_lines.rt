@@ -1,6 +1,6 @@
 //! Skips lines that have none of the literals of which every match contains one, and knows lines that have a match by a string in them.
 ghost use Rattle.std.specs.Prelude.{◌≡◌, ◌≤◌, ◌<◌, ℕ, List, length, IfSome};
-ghost use Rattle.line_search.specs.BoundedTrees.{IsTreeOf};
+ghost use Rattle.line_search.specs.BoundedTrees.{IsTreeForLines};
 ghost use Rattle.line_search.specs.Candidates.{IsLineStart, IsNextLine};
 ghost use Rattle.line_search.specs.LiteralLines.{AreLiteralsOf, HasStringsOf};
 ghost use Rattle.line_search.specs.declared.patterns.PatternOptions.{PatternOptions};
@@ -55,7 +55,7 @@ impl LiteralLines {
     /// The literals of the tree of the patterns. It returns `None` if no useful ones are known, if the tree has a look-around assertion
     /// about carriage returns, or if memory ran out.
     pub(crate) fn new(alloc: Global, tree: &Hir, crlf: bool) -> Option<LiteralLines>
-        ensures { (how : PatternOptions) (texts : List (List ℕ)) → how.crlf ≡ crlf → IsTreeOf how texts tree.now →
+        ensures { (how : PatternOptions) (texts : List (List ℕ)) → how.crlf ≡ crlf → IsTreeForLines how texts tree.now →
             IfSome result (AreLiteralsOf how texts) }
     {
         if has_crlf(tree) {

@@ -3,6 +3,7 @@ ghost use Rattle.std.specs.Prelude.{◌≡◌, ◌<◌, ◌≤◌, ◌∷◌, []
 ghost use Rattle.hir_core.specs.Facts.{LoopsRead};
 ghost use Rattle.hir_regex.specs.Built.{IsBuilt, FailsBuild};
 ghost use Rattle.pattern_search.specs.Searches.{span_of_found, whole_search};
+ghost use Rattle.line_search.specs.BoundedTrees.{IsTreeOf};
 ghost use Rattle.line_search.specs.FoundSpans.{IsFoundSpan};
 ghost use Rattle.line_search.specs.LineMatchers.{span_pair};
 ghost use Rattle.line_search.specs.declared.patterns.PatternOptions.{PatternOptions};
@@ -12,6 +13,7 @@ use crate::listing::{list, spans_of};
 use crate::regexes::{regex_of, resized};
 use hir_core::Hir;
 use hir_regex::find;
+use hir_regex::headline::searches_answer_leftmost_whatever_the_loops;
 use lazy_dfa::BuildError;
 use pattern_search::PatternError;
 use pattern_search::regex_laws::regexes_answer_what_patterns_say;
@@ -138,7 +140,7 @@ impl Searcher {
         ensures refused { IfErr result (IsLineError self.old.0 line.now) }
     {
         see_bytes(line);
-        regexes_answer_what_patterns_say();
+        searches_answer_leftmost_whatever_the_loops();
         let found = match find(&self.regex, &mut self.cache, &Input::new(line)) {
             Ok(found) => found,
             Err(e) => return Err(e),
@@ -155,7 +157,7 @@ impl Searcher {
         requires { start ≤ length line.now }
         ensures same { self.new.0 ≡ self.old.0 }
         ensures reported { (how : PatternOptions) (texts : List (List ℕ)) → (it : IsSearcherOf how texts self.old.0) →
-            LoopsRead it.tree → IfOk result (λ found. IsFoundSpan how texts line.now start (option_map span_pair found)) }
+            IsTreeOf how texts it.tree → LoopsRead it.tree → IfOk result (λ found. IsFoundSpan how texts line.now start (option_map span_pair found)) }
     {
         see_bytes(line);
         regexes_answer_what_patterns_say();
@@ -170,7 +172,7 @@ impl Searcher {
     pub fn matches(&mut self, alloc: Global, line: &[u8]) -> Result<Vec<Span>, MatchError>
         ensures same { self.new.0 ≡ self.old.0 }
         ensures reported { (how : PatternOptions) (texts : List (List ℕ)) → (it : IsSearcherOf how texts self.old.0) →
-            LoopsRead it.tree →
+            IsTreeOf how texts it.tree → LoopsRead it.tree →
             IfOk result (λ found. AreReported how texts line.now (map span_pair found.items)) }
         ensures refused { IfErr result (IsLineError self.old.0 line.now) }
     {

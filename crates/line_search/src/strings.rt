@@ -1,12 +1,13 @@
 //! Strings of a tree, which show that a line has a match without a search by automata.
 ghost use Rattle.std.specs.Prelude.{◌≡◌, ◌≤◌, ℕ, List, length, option_map, true, IfSome};
 ghost use Rattle.hir_core.specs.Tree.{alternation};
-ghost use Rattle.line_search.specs.BoundedTrees.{IsTreeOf};
+ghost use Rattle.line_search.specs.BoundedTrees.{IsTreeForLines};
 ghost use Rattle.line_search.specs.LiteralLines.{HasStringsOf, has_any_string_at, has_string_at};
 ghost use Rattle.line_search.specs.declared.patterns.PatternOptions.{PatternOptions};
 
 use hir_core::{Hir, HirKind};
 use line_trees::{has_crlf, reads_feed};
+use std::alloc::Global;
 
 /// At most so many strings are compared with the bytes at which a search stops.
 const MOST_STRINGS: usize = 8;
@@ -22,9 +23,9 @@ fn is_few_strings(tree: &Hir) -> bool {
 
 /// The tree, if a line that has one of its strings has a match: the tree is one of a few strings, and consumes no line feed. Where a
 /// carriage return belongs to the end of a line, none is returned.
-pub(crate) fn strings_of(tree: &Hir, crlf: bool) -> Option<&Hir>
-    ensures { (how : PatternOptions) (texts : List (List ℕ)) → how.crlf ≡ crlf → IsTreeOf how texts tree.now →
-        IfSome result (λ x. HasStringsOf how texts x.now) }
+pub(crate) fn strings_of(alloc: Global, tree: &Hir, crlf: bool) -> Option<Hir>
+    ensures { (how : PatternOptions) (texts : List (List ℕ)) → how.crlf ≡ crlf → IsTreeForLines how texts tree.now →
+        IfSome result (HasStringsOf how texts) }
 {
     if crlf {
         return None;
@@ -35,10 +36,13 @@ pub(crate) fn strings_of(tree: &Hir, crlf: bool) -> Option<&Hir>
     if reads_feed(tree) {
         return None;
     }
-    if is_few_strings(tree) {
-        return Some(tree);
+    if !is_few_strings(tree) {
+        return None;
     }
-    None
+    match tree.try_clone(alloc) {
+        Ok(copy) => Some(copy),
+        Err(_) => None,
+    }
 }
 
 /// Whether the haystack is seen to have a string of the tree at this offset.

@@ -31,4 +31,4 @@ returns-clause-reported c =
     subst (λ (s : Sought). s.spans ≡ true → IsFoundSpan s.how s.texts c.args.line.now c.args.start (option_map span_pair c.in-Ok.found))
     c.self.view_is
     (λ asked. c.in-Ok.ensures.reported c.self.inside.patterns.now.0 c.self.inside.patterns.now.1 c.self.invariant.0.0
-    (c.self.invariant.0.1 asked))
+    (c.self.invariant.0.1 asked).0 (c.self.invariant.0.1 asked).1)

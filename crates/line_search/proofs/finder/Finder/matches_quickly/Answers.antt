@@ -29,4 +29,4 @@ pub returns-clause-reported : goal.returns-clause-reported
 returns-clause-reported c =
     subst (λ (s : Sought). s.spans ≡ true → AreReported s.how s.texts c.args.line.now (map span_pair c.in-Ok.found.items)) c.self.view_is
     (λ asked. c.in-Ok.ensures.reported c.self.inside.patterns.now.0 c.self.inside.patterns.now.1 c.self.invariant.0.0
-    (c.self.invariant.0.1 asked))
+    (c.self.invariant.0.1 asked).0 (c.self.invariant.0.1 asked).1)

@@ -3,15 +3,17 @@ use Rattle.regex_pair.specs.Pairs.{Pair, PairCache}
 use Rattle.search_types.specs.Inputs.{Search}
 use Rattle.pattern_search.specs.Searches.{whole_search}
 use Rattle.regex_pair.specs.PairAnswers.{AnswersPair}
+use Rattle.ucd_perl.specs.Perl.{is_word_char}
+use Rattle.pattern_text.specs.Words.{word_set}
 use Rattle.line_search.specs.Searchers.{sized_settings}
-use Rattle.line_search.proofs.ToldLemmas.{progress_of}
+use Rattle.line_search.proofs.MatchLemmas.{progress_of}
 use Rattle.line_search.proofs.searcher.Searcher.has_match.Goals as goal
 
 pub returns-clause-reported : goal.returns-clause-reported
 returns-clause-reported c how texts it res read =
     c.is_some.ensures ∙ progress_of how texts c.args.self.now.0 c.find.new.cache c.args.line.now c.in-Ok.found
-    (λ rs xs k ends spans built. c.regexes_answer_what_patterns_say.ensures rs xs ends spans (sized_settings k) c.args.self.now.0 built
-    refl refl)
+    (λ xs k built q searched answer. c.searches_answer_leftmost_whatever_the_loops.ensures xs (sized_settings k) c.args.self.now.0 built refl q
+    searched c.find.new.cache c.in-Ok.found answer is_word_char word_set)
     it c.see_bytes.ensures
     (subst (λ (p : Pair). AnswersPair p c.find.new.cache (whole_search c.args.line.now 0) (Ok c.in-Ok.found))
     (c.deref.ensures ∙ ap (λ (v : Pair × PairCache). v.0) c.self.view_is)

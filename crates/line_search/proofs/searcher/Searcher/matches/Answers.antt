@@ -12,10 +12,10 @@ use Rattle.line_search.proofs.ToldLemmas.{all_told}
 use Rattle.line_search.proofs.searcher.Searcher.matches.Goals as goal
 
 pub returns-clause-reported : goal.returns-clause-reported
-returns-clause-reported c how texts it loops = all_told how texts c.args.self.now.0 c.args.line.now c.in-Ok.all.items _
+returns-clause-reported c how texts it mean loops = all_told how texts c.args.self.now.0 c.args.line.now c.in-Ok.all.items _
     (λ rs xs k ends spans built. c.regexes_answer_what_patterns_say.ensures rs xs ends spans (sized_settings k) c.args.self.now.0 built
     refl refl)
-    it loops c.see_bytes.ensures
+    it mean loops c.see_bytes.ensures
     (subst (λ (p : Pair). IsWholeList p (whole_search c.args.line.now 0) c.in-Ok.all.items)
     (c.deref.ensures ∙ ap (λ (v : Pair × PairCache). v.0) c.self.view_is)
     (subst (λ (q : Search). IsWholeList c.deref.result.now q c.in-Ok.all.items) c.new.ensures c.in-Ok.ensures.whole))
