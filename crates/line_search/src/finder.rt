@@ -17,7 +17,7 @@ use crate::replacing::Replaced;
 use crate::searcher::{Searcher, SearcherError};
 use crate::sizes::Size;
 use crate::slow_search::SlowSearch;
-use crate::strings::strings_of;
+use crate::strings::{strings_in, strings_of};
 use hir_core::Hir;
 use pattern_fallback::ends_at;
 use search_types::{MatchError, MatchErrorKind, Span};
@@ -213,10 +213,7 @@ impl<'t> Finder<'t> {
         ensures same { self.new ≡ self.old }
         ensures next { IsNextLine self.old.how self.old.texts block.now at result }
     {
-        let strings = match &self.strings {
-            Some(tree) => Some(tree),
-            None => None,
-        };
+        let strings = strings_in(&self.strings);
         let Some(literals) = &mut self.literals else {
             return Reached::here(at);
         };

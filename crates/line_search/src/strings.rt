@@ -45,6 +45,17 @@ pub(crate) fn strings_of(alloc: Global, tree: &Hir, crlf: bool) -> Option<Hir>
     }
 }
 
+/// The tree with the strings, if there is one.
+pub(crate) fn strings_in(strings: &Option<Hir>) -> Option<&Hir>
+    ensures { (how : PatternOptions) (texts : List (List ℕ)) → IfSome strings.now (HasStringsOf how texts) →
+        IfSome result (λ x. HasStringsOf how texts x.now) }
+{
+    match strings {
+        Some(tree) => Some(tree),
+        None => None,
+    }
+}
+
 /// Whether the haystack is seen to have a string of the tree at this offset.
 #[cycle(has_string_at)]
 pub(crate) fn has_string_at(tree: &Hir, haystack: &[u8], at: usize) -> bool

@@ -22,6 +22,10 @@ invariant_of-result c =
       c.strings_of.ensures c.args.patterns.now.0 c.args.patterns.now.1 (ap (λ (h : PatternOptions). h.crlf) (sym c.how-2.ensures)) lines,
     )
 
+pub new-candidates-requires-clause-tree : goal.new-candidates-requires-clause-tree
+new-candidates-requires-clause-tree c =
+    asked_for_lines c.args.patterns.now.0 c.args.patterns.now.1 c.args.with_matches c.args.tree.now c.requires.tree
+
 pub returns-clause-searches : goal.returns-clause-searches
 returns-clause-searches c =
     let read = read_for_lines c.args.patterns.now.0 c.args.patterns.now.1 c.args.tree.now
