@@ -68,10 +68,6 @@ same_words xs ys w moved m =
     let there = Contains-permutation xs ys w moved (contained xs w m) in
     listed_at ys w there.0 there.1 there.2
 
--- ---- enough words
-pub enough_of_none : AreEnoughOf [] []
-enough_of_none = record { listed = record { keeps = λ w m. m }; begun = record { prefixes = λ w m. elim m [ ] } }
-
 -- one more word, which begins with one of those that are kept
 enough_same : (words kept : List (List ℕ)) (word : List ℕ) → AreEnoughOf words kept → ListsPrefix kept word →
     AreEnoughOf (words ++ word ∷ []) kept

@@ -42,11 +42,6 @@ use Rattle.line_search.proofs.WholePatternLemmas.{find_same, whole_is_each, whol
 pub for_lines : (how : PatternOptions) (texts : List (List ℕ)) (x : Tree) → IsTreeOf how texts x → IsTreeForLines how texts x
 for_lines how texts x mean = record { whole = x; mean = mean; same_or_fewer = inl refl }
 
--- and so does that tree with fewer words
-pub for_lines_fewer : (how : PatternOptions) (texts : List (List ℕ)) (x y : Tree) → IsTreeOf how texts x → HasFewerWords x y →
-    IsTreeForLines how texts y
-for_lines_fewer how texts x y mean fewer = record { whole = x; mean = mean; same_or_fewer = inr fewer }
-
 pub asked_for_lines : (how : PatternOptions) (texts : List (List ℕ)) (spans : Bool) (x : Tree) → IsTreeAskedFor how texts spans x →
     IsTreeForLines how texts x
 asked_for_lines how texts true x mean = for_lines how texts x mean
@@ -55,17 +50,6 @@ asked_for_lines how texts false x mean = mean
 pub asked_for_spans : (how : PatternOptions) (texts : List (List ℕ)) (spans : Bool) (x : Tree) → IsTreeAskedFor how texts spans x →
     spans ≡ true → IsTreeOf how texts x
 asked_for_spans how texts spans x mean asked = subst (λ (b : Bool). IsTreeAskedFor how texts b x) asked mean
-
--- and the other way round
-pub asked_whole : (how : PatternOptions) (texts : List (List ℕ)) (spans : Bool) (x : Tree) → IsTreeOf how texts x →
-    IsTreeAskedFor how texts spans x
-asked_whole how texts true x mean = mean
-asked_whole how texts false x mean = for_lines how texts x mean
-
-pub asked_fewer : (how : PatternOptions) (texts : List (List ℕ)) (spans : Bool) (x y : Tree) → IsTreeOf how texts x → spans ≡ false →
-    HasFewerWords x y → IsTreeAskedFor how texts spans y
-asked_fewer how texts spans x y mean lines fewer =
-    subst (λ (b : Bool). IsTreeAskedFor how texts b y) (sym lines) (for_lines_fewer how texts x y mean fewer)
 
 -- the patterns can be parsed
 pub read_for_lines : (how : PatternOptions) (texts : List (List ℕ)) (x : Tree) → IsTreeForLines how texts x →
