@@ -111,18 +111,15 @@ fn run_asked(
     if !enter(rt, matches.get_strs("directory").unwrap_or(&[])) {
         return Ok(Outcome::failure());
     }
-    let mut changed = None;
-    if changes_types(matches) {
-        changed = types_changed(rt, known_types(), matches)?;
-        if changed.is_none() {
+    let selection = if changes_types(matches) {
+        let Some(types) = types_changed(rt, known_types(), matches)? else {
             return Ok(Outcome::failure());
-        }
-    }
-    let types = match &changed {
-        Some(types) => types.as_slice(),
-        None => known_types(),
+        };
+        selection_of(rt, asked, &types, matches)?
+    } else {
+        selection_of(rt, asked, known_types(), matches)?
     };
-    let Some(selection) = selection_of(rt, asked, types, matches)? else {
+    let Some(selection) = selection else {
         return Ok(Outcome::failure());
     };
     let words = Files {
