@@ -81,7 +81,7 @@ impl Groups {
     }
 
     /// Writes the slots of a match after those that are filled, as far as there is room, and returns how many are filled then.
-    #[inline]
+    #[inline(always)]
     pub(crate) fn write_row(
         &mut self,
         alloc: Global,

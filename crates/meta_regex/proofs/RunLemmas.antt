@@ -90,10 +90,10 @@ module _ (r : Run) (x : Tree) (it : IsRunOf r x) (h : List ℕ) (bytes : All (λ
   none_from : (s : ℕ) → (s < length h → has r.first (get_or h s 0) ≡ false) → round s ≡ []
   none_from s outside = no_round r it.body it.rounds h bytes looks s outside
 
-  none_starts : (s : ℕ) → preferred_ends looks h x s ≡ [] → (j : ℕ) → Means looks h x s j → ⊥
+  pub none_starts : (s : ℕ) → preferred_ends looks h x s ≡ [] → (j : ℕ) → Means looks h x s j → ⊥
   none_starts s none j m = subst (λ (l : List ℕ). Has l j) none (preferred_ends_complete looks h x s j m)
 
-  some_rounds : (s least : ℕ) → 0 < least → round s ≡ [] → at_least h true round least s ≡ []
+  pub some_rounds : (s least : ℕ) → 0 < least → round s ≡ [] → at_least h true round least s ≡ []
   some_rounds s zero some none = absurd (omega (arith, some))
   some_rounds s (suc least) some none = ap (λ (l : List ℕ). flat_map (at_least h true round least) l) none
 
@@ -168,7 +168,7 @@ none_left r x it h bytes from at done so = record {
 }
 
 -- ---- what a class is, byte by byte
-character_of : (h : List ℕ) (i b : ℕ) → slice_get h i ≡ Some b → nat_lt b 0x80 ≡ true → character_at h i ≡ Some b
+pub character_of : (h : List ℕ) (i b : ℕ) → slice_get h i ≡ Some b → nat_lt b 0x80 ≡ true → character_at h i ≡ Some b
 character_of h i b at low =
     let same = get_or_from_slice_get h i b 0 at in
     ap (λ (o : Option ℕ). option_or o (option_or (two_bytes h i) (option_or (three_bytes h i) (four_bytes h i))))

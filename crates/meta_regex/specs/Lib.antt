@@ -2,6 +2,7 @@ pub mod Options
 pub mod Regexes
 pub mod Fallbacks
 pub mod FirstBytes
+pub mod CharRounds
 pub mod Runs
 pub mod Parts
 pub mod Rounds

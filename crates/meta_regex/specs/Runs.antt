@@ -1,5 +1,5 @@
 -- Searches for patterns that are one or more rounds of a class of bytes or characters, as `[0-9]+` and `\w+`.
-use Rattle.std.specs.Prelude.{◌≡◌, ℕ, ◌+◌, ◌<◌, ◌≤◌, ◌&&◌, Bool, true, false, nat_lt, not, List, [], ◌∷◌, All, length, slice_get, Some, None}
+use Rattle.std.specs.Prelude.{◌≡◌, ℕ, ◌+◌, ◌<◌, ◌≤◌, ◌&&◌, Bool, true, false, nat_lt, not, List, [], ◌∷◌, All, length, slice_get, Some, None, IfSome}
 use Rattle.search_core.specs.ByteSets.{has}
 use Rattle.hir_core.specs.Tree.{Tree, byte_class, char_class}
 use Rattle.hir_core.specs.Means.{Looks, is_member}
@@ -8,6 +8,7 @@ use Rattle.literal_search.specs.Searches.{IsNextStart}
 use Rattle.meta_regex.specs.declared.runs.NextRun.{NextRun}
 use Rattle.meta_regex.specs.declared.runs.NextRun.TheVariants.{Found, Missing, From}
 use Rattle.meta_regex.specs.declared.runs.Run.{Run}
+use Rattle.meta_regex.specs.CharRounds.{AreCharsOf}
 use Rattle.meta_regex.specs.FirstBytes.{AreFirstBytes}
 
 -- whether the tree is a class that has this byte, or the character that this byte alone spells
@@ -29,12 +30,13 @@ pub record AreRoundsOf (r : Run) (body : Tree) : Type 0 where
   pub members : AreMembers r.members body
   pub others : (b : ℕ) → b < 256 → has r.ends b ≡ not (has r.members b)
 
--- the tree is at least so many rounds of such a body, of which more are preferred, and at least one
+-- the tree is at least so many rounds of such a body, of which more are preferred, and at least one; a table is that of the body's characters
 pub record IsRunOf (r : Run) (x : Tree) : Type 0 where
   pub some : 0 < r.least
   pub body : Tree
   pub rounds : AreRoundsOf r body
   pub ends : (looks : Looks) (h : List ℕ) (i : ℕ) → preferred_ends looks h x i ≡ at_least h true (preferred_ends looks h body) r.least i
+  pub chars : IfSome r.chars (λ table. AreCharsOf table.items body)
 
 -- there is one tree, and it is such a run
 pub record IsRunOfTrees (r : Run) (trees : List Tree) : Type 0 where

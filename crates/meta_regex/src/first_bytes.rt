@@ -40,7 +40,7 @@ pub(crate) fn has_char(ranges: &[(char, char)], byte: u8) -> bool
 }
 
 /// Whether one of the ranges ends above ASCII.
-fn has_high(ranges: &[(char, char)]) -> bool
+pub(crate) fn has_high(ranges: &[(char, char)]) -> bool
     ensures { result ≡ has_high ranges.now }
 {
     ranges.iter().any(|range| 0x80 <= range.1 as u32)

@@ -8,6 +8,7 @@
 mod anchored;
 mod building;
 mod cache;
+mod char_rounds;
 mod compiled;
 mod errors;
 mod fallback;

@@ -2,21 +2,28 @@
 //! automata.
 //!
 //! The leftmost-first match is the first run of enough bytes of the class. Of a class of characters the run has ASCII alone. If a byte that
-//! may begin another character of the class is at the start or the end of a run, the search stops before the run, and automata go on there.
+//! may begin another character of the class is at the start or the end of a run, its characters are read one by one. Where these aren't in
+//! the table of the class, or too few of them follow each other, the search stops before the run, and automata go on there.
 ghost use Rattle.std.specs.Prelude.{◌≡◌, ◌<◌, ◌≤◌, ℕ, false, get_or, IfSome, length, not, true};
 ghost use Rattle.search_core.specs.ByteSets.{has};
 ghost use Rattle.hir_core.specs.Tree.{Tree};
+ghost use Rattle.meta_regex.specs.CharRounds.{AreCharsOf};
 ghost use Rattle.meta_regex.specs.FirstBytes.{may_begin};
 ghost use Rattle.meta_regex.specs.Runs.{AreRoundsOf, IsNextRun, IsRunOf, IsRunOfTrees, has_byte};
 
+use crate::char_rounds::{chars_of, rounds_from};
 use crate::first_bytes::{has_byte, has_char, may_be_empty, may_begin};
 use crate::rounds::rounds_of;
 use crate::searching::see_bytes;
 use hir_core::{Hir, HirKind};
 use search_core::ByteSet;
+use std::alloc::Global;
 
 /// How many bytes of a run are examined one by one.
 const NEAR: usize = 24;
+
+/// How many offsets are tried, character by character, before automata go on.
+const TRIES: usize = 8;
 
 /// At least so many rounds of a class.
 #[derive(Drop)]
@@ -31,6 +38,8 @@ pub(crate) struct Run {
     pub(crate) ends: regex_literal::ByteSet,
     /// How many rounds there are at least.
     pub(crate) least: usize,
+    /// The table of the class, if it is one of characters with others than ASCII.
+    pub(crate) chars: Option<Vec<bool>>,
 }
 
 /// What a search for a run finds.
@@ -122,11 +131,12 @@ pub(crate) fn run_of_body(least: usize, body: &Hir) -> Option<Run>
         members,
         ends: regex_literal::ByteSet::new(&flags_of_others(&members)),
         least,
+        chars: None,
     })
 }
 
 /// The run that the tree is, if it is one.
-fn run_of(x: &Hir) -> Option<Run>
+fn run_of(alloc: Global, x: &Hir) -> Option<Run>
     ensures { IfSome result (λ r. IsRunOf r x.now) }
 {
     let Some(rounds) = rounds_of(x) else {
@@ -135,14 +145,15 @@ fn run_of(x: &Hir) -> Option<Run>
     if rounds.least == 0 {
         return None;
     }
-    let Some(run) = run_of_body(rounds.least, rounds.body) else {
+    let Some(mut run) = run_of_body(rounds.least, rounds.body) else {
         return None;
     };
+    run.chars = chars_of(alloc, rounds.body);
     Some(run)
 }
 
 /// The run that the only tree is, if there is one tree.
-pub(crate) fn run_of_only(trees: &[Hir]) -> Option<Run>
+pub(crate) fn run_of_only(alloc: Global, trees: &[Hir]) -> Option<Run>
     ensures { IfSome result (λ r. IsRunOfTrees r trees.now) }
 {
     let Some((tree, others)) = trees.split_first() else {
@@ -151,7 +162,7 @@ pub(crate) fn run_of_only(trees: &[Hir]) -> Option<Run>
     if !others.is_empty() {
         return None;
     }
-    let Some(run) = run_of(tree) else {
+    let Some(run) = run_of(alloc, tree) else {
         return None;
     };
     Some(run)
@@ -228,6 +239,36 @@ impl Run {
         self.far_end(haystack, end)
     }
 
+    /// The next match from an offset on at which a character may be that isn't ASCII, as far as the table of the class tells.
+    #[inline(never)]
+    fn next_by_characters(&self, haystack: &[u8], from: usize) -> NextRun
+        requires { from ≤ length haystack.now }
+        ensures { (x : Tree) → IsRunOf self.now x → IsNextRun x haystack.now from result }
+    {
+        see_bytes(haystack);
+        let Some(table) = &self.chars else {
+            return NextRun::From(from);
+        };
+        let mut at = from;
+        for _ in 0..TRIES {
+            let start = self.next_start(haystack, at);
+            if start == haystack.len() {
+                return NextRun::Missing;
+            }
+            let Some(rounds) = rounds_from(table, haystack, start) else {
+                return NextRun::From(start);
+            };
+            if self.least <= rounds.count {
+                return NextRun::Found(start, rounds.end);
+            }
+            if rounds.count > 0 {
+                return NextRun::From(start);
+            }
+            at = start + 1;
+        }
+        NextRun::From(at)
+    }
+
     /// The next match from this offset on.
     #[inline(always)]
     pub(crate) fn next(&self, haystack: &[u8], from: usize) -> NextRun
@@ -240,7 +281,7 @@ impl Run {
             let start = self.next_start(haystack, at);
             let end = self.run_end(haystack, start);
             if stands_at(&self.first, haystack, end) {
-                return NextRun::From(start);
+                return self.next_by_characters(haystack, start);
             }
             if self.least <= end - start {
                 return NextRun::Found(start, end);

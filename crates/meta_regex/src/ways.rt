@@ -73,7 +73,7 @@ impl Way {
     pub(crate) fn of(alloc: Global, trees: &[Hir], starts: &LiteralStarts, short: bool) -> Way
         ensures { IsWayOf result trees.now }
     {
-        if let Some(run) = run_of_only(trees) {
+        if let Some(run) = run_of_only(alloc, trees) {
             return Way::Run(run);
         }
         if !short || begins_at_lines(starts) {

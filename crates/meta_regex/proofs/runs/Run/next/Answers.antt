@@ -1,12 +1,15 @@
 use Rattle.std.proofs.Common.{◌+◌, arith}
+use Rattle.meta_regex.proofs.CharLemmas.{next_from_later}
 use Rattle.meta_regex.proofs.RunLemmas.{finds_run, none_left, skips_run, stops_before}
 use Rattle.meta_regex.proofs.runs.Run.next.Goals as goal
 
 pub returns-then-stands_at : goal.returns-then-stands_at
 returns-then-stands_at c = λ x it.
-    stops_before c.args.self.now c.args.haystack.now c.see_bytes.ensures c.args.from c.loop-at.at c.next_start-start.result
+    let stop = stops_before c.args.self.now c.args.haystack.now c.see_bytes.ensures c.args.from c.loop-at.at c.next_start-start.result
     c.next_start-start.ensures.high c.next_start-start.ensures.low c.next_start-start.ensures.passed x it c.loop-at.invariant.0
-    (c.loop-at.invariant.2 x it)
+    (c.loop-at.invariant.2 x it) in
+    next_from_later x c.args.haystack.now c.args.from c.next_start-start.result c.next_by_characters.result stop.0 stop.2
+    (c.next_by_characters.ensures x it)
 
 pub returns-then-self-end : goal.returns-then-self-end
 returns-then-self-end c = λ x it.
