@@ -1,9 +1,19 @@
-//! A box as its pointer and its allocator.
-ghost use Rattle.std.specs.Prelude.{◌≡◌};
+//! Values in memory blocks of their own, and a box as its pointer and its allocator.
+ghost use Rattle.std.specs.Prelude.{◌≡◌, IfOk};
 ghost use Rattle.std.specs.Box.Ownership.{box_owns};
 
-use std::alloc::Allocator;
+use std::alloc::{AllocError, Allocator, Global};
 use std::marker::Model;
+
+/// A value in a memory block of its own, if memory suffices.
+pub(crate) fn boxed<T: Drop>(alloc: Global, value: T) -> Result<Box<T>, AllocError>
+    ensures { IfOk result (λ b. b.value ≡ value) }
+{
+    match Box::new(alloc, value) {
+        Ok(whole) => Ok(whole),
+        Err(_) => Err(AllocError),
+    }
+}
 
 /// The parts of a box. They own what the box owned.
 pub(crate) struct Apart<T, A: Allocator> {

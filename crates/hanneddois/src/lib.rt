@@ -21,6 +21,7 @@ ghost use Rattle.hanneddois.specs.Answers.{AnswersIsMatch, AnswersFind, AnswersC
 ghost use Rattle.hanneddois.specs.Answers.{KeptNext, has_rows, AnswersReplace, FailsReplace, is_replaced, pattern_count_of};
 ghost use Rattle.hanneddois.specs.Answers.{RejectsNew, FailsSearch, FailsCaptures, FailsMatchingPatterns};
 
+use apart::boxed;
 use ffi_core::{
     Compiled, Failure, FoundMatch, NO_OFFSET, NewError, Options, accepts, error_text, patterns_of,
 };
@@ -83,7 +84,7 @@ fn made(
         Ok(compiled) => compiled,
         Err(e) => return Err(e),
     };
-    match Box::new(alloc, compiled) {
+    match boxed(alloc, compiled) {
         Ok(inside) => Ok(inside),
         Err(_) => Err(NewError::NoMemory),
     }
@@ -140,9 +141,9 @@ fn copied(alloc: Global, inside: &Compiled) -> Result<Box<Compiled>, AllocError>
 {
     shareable::<Regex>();
     let compiled = inside.try_clone(alloc)?;
-    match Box::new(alloc, compiled) {
+    match boxed(alloc, compiled) {
         Ok(copy) => Ok(copy),
-        Err(_) => Err(AllocError),
+        Err(error) => Err(error),
     }
 }
 

@@ -11,6 +11,7 @@ ghost use Rattle.ffi_core.specs.Texts.{cut};
 ghost use Rattle.hanneddois.specs.StreamAnswers.{AnswersChange, AnswersClose, AnswersCopy, AnswersFeed, AnswersOpen, Becomes};
 ghost use Rattle.hanneddois.specs.StreamAnswers.{RejectsStreams, failure_of_outcome};
 
+use crate::apart::boxed;
 use crate::stream_handle::StreamHandle;
 use crate::{BAD_ARGUMENT, NO_MEMORY, OK, end, refuse};
 use ffi_core::{Failure, Options, accepts, streams_of};
@@ -33,7 +34,7 @@ fn made(
         Ok(set) => set,
         Err(failure) => return Err(failure),
     };
-    match Box::new(alloc, set) {
+    match boxed(alloc, set) {
         Ok(inside) => Ok(inside),
         Err(_) => Err(Failure::plain(NO_MEMORY)),
     }
