@@ -1,11 +1,11 @@
 -- What steps write along a match.
-use Rattle.std.proofs.Common.{◌≡◌, ℕ, zero, suc, ◌+◌, ◌-◌, ◌<◌, ◌≤◌, Bool, true, false, List, [], ◌∷◌, length, drop, replicate, get_or, slice_index, slice_set, refl, sym, ap, ap₂, ◌∙◌, ⊎_elim, arith, drop-cons}
+use Rattle.std.proofs.Common.{◌≡◌, ℕ, zero, suc, ◌+◌, ◌-◌, ◌<◌, ◌≤◌, Bool, true, false, List, [], ◌∷◌, Some, None, replicate, slice_index, slice_set, refl, sym, ap, ◌∙◌, ⊎_elim, arith}
 use Rattle.std.proofs.lemmas.Bool.{cond-true, cond-false, cases_lt}
 use Rattle.search_core.specs.ByteSets.{has}
 use Rattle.group_finder.specs.declared.steps.Step.{Step}
 use Rattle.group_finder.specs.declared.steps.Step.TheVariants.{Skip, Run, Character, Rest, Save}
 use Rattle.group_finder.specs.Slots.{no_offset}
-use Rattle.group_finder.specs.Layouts.{after_step, run_end, slots_laid, step_writes, steps_write, written}
+use Rattle.group_finder.specs.Layouts.{after_step, run_end, slot_of, slots_laid, step_writes, steps_write, written}
 
 -- ---- a run of bytes
 pub run_none : (s : List Bool) (h : List ℕ) (n at : ℕ) → n ≡ 0 → run_end s h n at ≡ at
@@ -37,27 +37,34 @@ run_lands s h (suc gap) i at end here within inside out =
     ∙ run_lands s h gap (i + 1) at end (omega (arith, here)) within (λ x from below. inside x (omega (arith, from)) below) out
 
 -- ---- steps one by one
-after_one : (s : Step) (at : ℕ) (ws : List (ℕ × ℕ)) (slots : List ℕ) →
-    written (step_writes s at ws) slots ≡ written ws (written (step_writes s at []) slots)
-unfolding written
-after_one (Skip n) at ws slots = refl
-after_one (Run set) at ws slots = refl
-after_one Character at ws slots = refl
-after_one (Rest n) at ws slots = refl
-after_one (Save slot) at ws slots = refl
+-- a step that writes, and those after it
+pub one_saved : (h : List ℕ) (end : ℕ) (s : Step) (steps : List Step) (at slot : ℕ) (old new all : List ℕ) → slot_of s ≡ Some slot →
+    new ≡ slice_set old slot at → written (steps_write h end (s ∷ steps) at) old ≡ all → written (steps_write h end steps at) new ≡ all
+unfolding steps_write written
+one_saved h end (Save k) steps at slot old new all is wrote so_far =
+    ap (written (steps_write h end steps at)) (wrote ∙ ap (λ (n : ℕ). slice_set old n at) (sym (some_same k slot is))) ∙ so_far
+  where
+    some_same : (a b : ℕ) → Some a ≡ Some b → a ≡ b
+    some_same a b is = cc
+one_saved h end (Skip n) steps at slot old new all is wrote so_far = cc
+one_saved h end (Run set) steps at slot old new all is wrote so_far = cc
+one_saved h end Character steps at slot old new all is wrote so_far = cc
+one_saved h end (Rest n) steps at slot old new all is wrote so_far = cc
 
-pub one_written : (h : List ℕ) (end : ℕ) (steps : List Step) (i at next : ℕ) (s : Step) (old new all : List ℕ) → i < length steps →
-    s ≡ get_or steps i s → next ≡ after_step h end s at → new ≡ written (step_writes s at []) old →
-    written (steps_write h end (drop i steps) at) old ≡ all → written (steps_write h end (drop (i + 1) steps) next) new ≡ all
+-- a step that doesn't, and those after it
+pub one_passed : (h : List ℕ) (end : ℕ) (s : Step) (steps : List Step) (at next : ℕ) (slots all : List ℕ) → slot_of s ≡ None →
+    next ≡ after_step h end s at → written (steps_write h end (s ∷ steps) at) slots ≡ all → written (steps_write h end steps next) slots ≡ all
 unfolding steps_write
-one_written h end steps i at next s old new all inside is moved wrote so_far =
-    let more : suc i ≡ i + 1 = omega arith in
-    let parts : drop i steps ≡ s ∷ drop (i + 1) steps =
-    drop-cons steps i s inside ∙ ap₂ ◌∷◌ (sym is) (ap (λ n. drop n steps) more) in
-    ap₂ (λ (a : ℕ) (xs : List ℕ). written (steps_write h end (drop (i + 1) steps) a) xs) moved wrote
-    ∙ sym (after_one s at (steps_write h end (drop (i + 1) steps) (after_step h end s at)) old)
-    ∙ ap (λ (ss : List Step). written (steps_write h end ss at) old) (sym parts)
-    ∙ so_far
+one_passed h end s steps at next slots all none moved so_far =
+    ap (λ (a : ℕ). written (steps_write h end steps a) slots) moved ∙ ap (λ (ws : List (ℕ × ℕ)). written ws slots) (sym (passes s none)) ∙ so_far
+  where
+    passes : (s : Step) → slot_of s ≡ None →
+        step_writes s at (steps_write h end steps (after_step h end s at)) ≡ steps_write h end steps (after_step h end s at)
+    passes (Save k) none = cc
+    passes (Skip n) none = refl
+    passes (Run set) none = refl
+    passes Character none = refl
+    passes (Rest n) none = refl
 
 pub none_left : (h : List ℕ) (end : ℕ) (steps : List Step) (at : ℕ) (slots : List ℕ) → steps ≡ [] →
     written (steps_write h end steps at) slots ≡ slots

@@ -40,6 +40,14 @@ step_writes (Run set) at ws = ws
 step_writes Character at ws = ws
 step_writes (ToRest n) at ws = ws
 
+-- The slot into which a step writes, if it does.
+abbrev pub slot_of : Step → Option ℕ
+slot_of (Save slot) = Some slot
+slot_of (Skip n) = None
+slot_of (Run set) = None
+slot_of Character = None
+slot_of (ToRest n) = None
+
 -- What steps write, from an offset on, in a match with this end.
 unfoldable pub steps_write : List ℕ → ℕ → List Step → ℕ → List (ℕ × ℕ)
 steps_write h end [] at = []

@@ -1,6 +1,6 @@
 //! Steps along a match whose span is known, which write the offsets of its groups.
 ghost use Rattle.std.specs.Prelude.{◌≡◌, ◌≤◌, ◌+◌, ◌-◌, [], length, min, slice_index, slice_set};
-ghost use Rattle.group_finder.specs.Layouts.{after_step, run_end, slots_laid, step_writes, steps_write, width_by, written};
+ghost use Rattle.group_finder.specs.Layouts.{after_step, run_end, slot_of, slots_laid, steps_write, width_by, written};
 
 use crate::slots::clear;
 use search_core::ByteSet;
@@ -74,19 +74,26 @@ fn save(slots: &mut [usize], slot: usize, offset: usize)
     }
 }
 
-/// Writes what a step writes, and returns the offset after it.
+/// The slot into which a step writes, if it is one that does.
 #[inline(always)]
-fn go(step: &Step, haystack: &[u8], at: usize, end: usize, slots: &mut [usize]) -> usize
+fn slot_of(step: &Step) -> Option<usize>
+    ensures { result ≡ slot_of step.now }
+{
+    match step {
+        Step::Save(slot) => Some(*slot),
+        Step::Skip(_) | Step::Run(_) | Step::Character | Step::Rest(_) => None,
+    }
+}
+
+/// The offset after a step.
+#[inline(always)]
+fn after(step: &Step, haystack: &[u8], at: usize, end: usize) -> usize
     requires ordered { (at ≤ end) × (end ≤ length haystack.now) }
     ensures is { result ≡ after_step haystack.now end step.now at }
     ensures within { result ≤ end }
-    ensures written { slots.new ≡ written (step_writes step.now at []) slots.old }
 {
     match step {
-        Step::Save(slot) => {
-            save(slots, *slot, at);
-            at
-        }
+        Step::Save(_) => at,
         Step::Skip(count) => at + (end - at).min(*count),
         Step::Run(set) => run_to(set, haystack, at, end),
         Step::Character => next_character(haystack, at, end),
@@ -94,15 +101,20 @@ fn go(step: &Step, haystack: &[u8], at: usize, end: usize, slots: &mut [usize]) 
     }
 }
 
-/// Writes what the steps write along a match.
+/// Writes what the steps write along a match. Half of them or more only write, so that is asked first.
 #[inline(always)]
 fn walk(steps: &[Step], haystack: &[u8], start: usize, end: usize, slots: &mut [usize])
     requires ordered { (start ≤ end) × (end ≤ length haystack.now) }
     ensures { slots.new ≡ written (steps_write haystack.now end steps.now start) slots.old }
 {
     let mut at = start;
-    for i in 0..steps.len() {
-        at = go(&steps[i], haystack, at, end, slots);
+    let mut left = steps;
+    while let Some((step, others)) = left.split_first() {
+        match slot_of(step) {
+            Some(slot) => save(slots, slot, at),
+            None => at = after(step, haystack, at, end),
+        }
+        left = others;
     }
 }
 
