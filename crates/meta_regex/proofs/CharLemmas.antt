@@ -20,6 +20,7 @@ use Rattle.meta_regex.specs.declared.runs.NextRun.{NextRun}
 use Rattle.meta_regex.specs.declared.runs.NextRun.TheVariants.{Found, Missing as NoRun, From}
 use Rattle.meta_regex.specs.declared.runs.Run.{Run}
 use Rattle.meta_regex.proofs.RunLemmas.{Led, none_starts, some_rounds}
+use Rattle.meta_regex.proofs.SequenceLemmas.{next_from, nowhere_from}
 
 -- ---- rounds of one end each, one after the other
 -- so many rounds consume as many bytes or more
@@ -108,19 +109,9 @@ module _ (r : Run) (x : Tree) (it : IsRunOf r x) (h : List ℕ) (bytes : All (λ
 -- the next span from a later offset on, before which none starts, is the next one
 pub next_from_later : (x : Tree) (h : List ℕ) (from at : ℕ) (next : NextRun) → from ≤ at → StartsFrom x h from at → IsNextRun x h at next →
     IsNextRun x h from next
-next_from_later x h from at next low so = by_case next
-  where
-    first_start : (s : ℕ) → IsNextStart x h at (Some s) → IsNextStart x h from (Some s)
-    first_start s it = (
-      omega (arith, low, it.0),
-      it.1,
-      record { starts = λ looks k j above inside m. it.2.starts looks k j (so.starts looks k j above inside m) inside m },
-    )
-
-    by_case : (next : NextRun) → IsNextRun x h at next → IsNextRun x h from next
-    by_case (Found i j) it = (first_start i it.0, it.1, it.2, it.3)
-    by_case NoRun it = record { none = λ looks s j above inside m. it.none looks s j (so.starts looks s j above inside m) inside m }
-    by_case (From s) it = first_start s it
+next_from_later x h from at (Found i j) low so it = (next_from x h from at i so low it.0, it.1, it.2, it.3)
+next_from_later x h from at NoRun low so it = nowhere_from x h from at so it
+next_from_later x h from at (From s) low so it = next_from x h from at s so low it
 
 -- ---- what a table tells of a character
 member_ends : (b : Bool) (j : ℕ) → b ≡ true → (if b then j ∷ [] else []) ≡ j ∷ []

@@ -1,5 +1,5 @@
 -- What a search for a sequence of parts has found so far.
-use Rattle.std.proofs.Common.{◌≡◌, ℕ, ◌+◌, ◌<◌, ◌≤◌, inl, inr, List, length, Some, None, Option, subst, arith}
+use Rattle.std.proofs.Common.{◌≡◌, ℕ, ◌+◌, ◌≤◌, inl, inr, List, length, Some, None, Option, subst, arith}
 use Rattle.std.specs.Prelude.{IfSome}
 use Rattle.std.proofs.lemmas.Bool.{cases_lt}
 use Rattle.hir_core.specs.Tree.{Tree, never}
@@ -8,8 +8,6 @@ use Rattle.hir_core.specs.PreferredEnds.{Has}
 use Rattle.hir_core.proofs.ForCallers.{preferred_ends_complete}
 use Rattle.literal_search.specs.Searches.{IsBegunBy, IsNextStart, StartsFrom, StartsNowhere}
 use Rattle.meta_regex.specs.Parts.{HasNoEndAt}
-use Rattle.meta_regex.specs.Runs.{IsNextRun, PrefersEnd}
-use Rattle.meta_regex.specs.declared.runs.NextRun.TheVariants.{Found}
 
 -- no span starts where there is no end
 starts_not : (x : Tree) (h : List ℕ) (k : ℕ) → HasNoEndAt x h k → (looks : Looks) (j : ℕ) → Means looks h x k j → ⊥
@@ -30,9 +28,6 @@ module _ (x : Tree) (h : List ℕ) (from at start : ℕ) (so : StartsFrom x h fr
     next.1,
     record { starts = λ looks s e above within m. next.2.starts looks s e (so.starts looks s e above within m) within m },
   )
-
-  pub found_next : (end : ℕ) → (start < end) × (end ≤ length h) × PrefersEnd x h start end → IsNextRun x h from (Found start end)
-  found_next end it = (next_from, it.0, it.1, it.2)
 
   module _ (last : ℕ) (none : (k : ℕ) → start ≤ k → k ≤ last → HasNoEndAt x h k) where
     pub starts_later : StartsFrom x h from (last + 1)

@@ -116,12 +116,6 @@ only_next x h at (Some k) next = (
   record { starts = λ looks i e low within m. next.2.starts looks i e low within (only_tree looks h x i e m) },
 )
 
-pub only_in_line : (literals : List (List ℕ)) (x : Tree) → IsInLine literals x → IsInLine literals (alternation (x ∷ []))
-only_in_line literals x it = record {
-  contained = record { contained = λ looks h i j m. it.contained.contained looks h i j (only_tree looks h x i j m) };
-  feedless = ap (λ (b : Bool). b || false) it.feedless;
-}
-
 pub next_in_line : (x : Tree) (h : List ℕ) (at k s : ℕ) →
     ((looks : Looks) (i e : ℕ) → Means looks h x i e → HasNoFeedFrom h i e) → IsNextEnd x h at (Some k) → at ≤ s → s ≤ length h →
     (at < s → s ≤ k) → (at < s → slice_get h (s - 1) ≡ Some 10) → IsNextStart x h at (Some s)
@@ -144,11 +138,6 @@ found_later config texts h a b o first found = record {
 pub span_later : (config : Config) (texts : List (List ℕ)) (h : List ℕ) (a b : ℕ) (o : Option FoundMatch) →
     MayBeginAt config texts h a (Some b) → HasFoundSpan config texts h b o → HasFoundSpan config texts h a o
 span_later config texts h a b o first found res read = ap (λ (o : Option Match). option_map span_of_match o) (first.1 res read) ∙ found res read
-
--- no match starts at an offset: the search may begin at the next one, and at the end there is none
-pub skipped : (config : Config) (texts : List (List ℕ)) (h : List ℕ) (at : ℕ) → at < length h → NoneStartsAt config texts h at →
-    MayBeginAt config texts h at (Some (at + 1))
-skipped config texts h at less none = (omega (arith, less), none)
 
 pub none_at_end : (config : Config) (texts : List (List ℕ)) (h : List ℕ) (at : ℕ) → at ≡ length h → NoneStartsAt config texts h at →
     MayBeginAt config texts h at None
