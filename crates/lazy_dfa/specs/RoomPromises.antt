@@ -1,6 +1,6 @@
 -- What the calls guarantee that make room for a state or add it: about their results, the cache and their work. In all
 -- of them `s` is that state.
-use Rattle.std.specs.Prelude.{◌≡◌, ◌≢◌, ◌⊎◌, ℕ, ◌+◌, ◌≤◌, false, true, length, slice_index_or, Option, None, Some}
+use Rattle.std.specs.Prelude.{◌≡◌, ◌≢◌, ◌⊎◌, ℕ, ◌+◌, ◌≤◌, false, true, length, slice_index_or, None, Some}
 use Rattle.std.specs.Prelude.{Result, Ok, Err, IfOk, OnOk, IfErr, OnErr}
 use Rattle.determinize_core.specs.States.{StateValue}
 use Rattle.lazy_dfa.specs.Caches.{CacheValue, HeldAt, Names, Fits, row_holding, state_at, with_state, cleared, needs_clear, has_no_room}

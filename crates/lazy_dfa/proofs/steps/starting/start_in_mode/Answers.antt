@@ -34,8 +34,8 @@ returns-then-not-is_not_known-clause-answer g c = record {
 
 pub returns-in_err-state-clause-answer : goal.returns-in_err-state-clause-answer
 returns-in_err-state-clause-answer g c =
-    let empty = unknown_start c.args.dfa.now c.args.cache.now c.args.mode (c.args.mode * 7 + c.as_usize.result) c.args.name c.start-known.result
-    c.args.start c.requires.own
+    let empty = unknown_start c.args.dfa.now c.args.cache.now c.args.mode (c.args.mode * 7 + c.as_usize.result) c.args.name
+    c.start-known.result c.args.start c.requires.own
     (ap (λ (n : ℕ). c.args.mode * 7 + n) c.as_usize.ensures.number) c.requires.inside c.requires.named c.start-known.ensures
     (sym c.is_not_known.ensures ∙ c.if-not-is_not_known.false) in
     record {
@@ -50,8 +50,8 @@ returns-in_err-state-clause-answer g c =
 
 pub returns-in_err-state-clause-made : goal.returns-in_err-state-clause-made
 returns-in_err-state-clause-made g c =
-    let empty = unknown_start c.args.dfa.now c.args.cache.now c.args.mode (c.args.mode * 7 + c.as_usize.result) c.args.name c.start-known.result
-    c.args.start c.requires.own
+    let empty = unknown_start c.args.dfa.now c.args.cache.now c.args.mode (c.args.mode * 7 + c.as_usize.result) c.args.name
+    c.start-known.result c.args.start c.requires.own
     (ap (λ (n : ℕ). c.args.mode * 7 + n) c.as_usize.ensures.number) c.requires.inside c.requires.named c.start-known.ensures
     (sym c.is_not_known.ensures ∙ c.if-not-is_not_known.false) in
     record {
@@ -64,8 +64,8 @@ returns-in_err-state-clause-made g c =
 
 pub returns-in-Err-clause-answer : goal.returns-in-Err-clause-answer
 returns-in-Err-clause-answer g c =
-    let empty = unknown_start c.args.dfa.now c.args.cache.now c.args.mode (c.args.mode * 7 + c.as_usize.result) c.args.name c.start-known.result
-    c.args.start c.requires.own
+    let empty = unknown_start c.args.dfa.now c.args.cache.now c.args.mode (c.args.mode * 7 + c.as_usize.result) c.args.name
+    c.start-known.result c.args.start c.requires.own
     (ap (λ (n : ℕ). c.args.mode * 7 + n) c.as_usize.ensures.number) c.requires.inside c.requires.named c.start-known.ensures
     (sym c.is_not_known.ensures ∙ c.if-not-is_not_known.false) in
     record {
@@ -81,8 +81,8 @@ returns-in-Err-clause-answer g c =
 
 pub returns-in-Err-clause-changes : goal.returns-in-Err-clause-changes
 returns-in-Err-clause-changes g c =
-    let empty = unknown_start c.args.dfa.now c.args.cache.now c.args.mode (c.args.mode * 7 + c.as_usize.result) c.args.name c.start-known.result
-    c.args.start c.requires.own
+    let empty = unknown_start c.args.dfa.now c.args.cache.now c.args.mode (c.args.mode * 7 + c.as_usize.result) c.args.name
+    c.start-known.result c.args.start c.requires.own
     (ap (λ (n : ℕ). c.args.mode * 7 + n) c.as_usize.ensures.number) c.requires.inside c.requires.named c.start-known.ensures
     (sym c.is_not_known.ensures ∙ c.if-not-is_not_known.false) in
     record {
@@ -111,8 +111,8 @@ returns-in-Err-clause-changes g c =
 
 pub returns-in-Err-clause-made : goal.returns-in-Err-clause-made
 returns-in-Err-clause-made g c =
-    let empty = unknown_start c.args.dfa.now c.args.cache.now c.args.mode (c.args.mode * 7 + c.as_usize.result) c.args.name c.start-known.result
-    c.args.start c.requires.own
+    let empty = unknown_start c.args.dfa.now c.args.cache.now c.args.mode (c.args.mode * 7 + c.as_usize.result) c.args.name
+    c.start-known.result c.args.start c.requires.own
     (ap (λ (n : ℕ). c.args.mode * 7 + n) c.as_usize.ensures.number) c.requires.inside c.requires.named c.start-known.ensures
     (sym c.is_not_known.ensures ∙ c.if-not-is_not_known.false) in
     record {
@@ -150,8 +150,8 @@ returns-in-Ok-clause-own g c = started c.args.dfa.now c.place_start.new.cache c.
 
 pub returns-in-Ok-clause-answer : goal.returns-in-Ok-clause-answer
 returns-in-Ok-clause-answer g c =
-    let empty = unknown_start c.args.dfa.now c.args.cache.now c.args.mode (c.args.mode * 7 + c.as_usize.result) c.args.name c.start-known.result
-    c.args.start c.requires.own
+    let empty = unknown_start c.args.dfa.now c.args.cache.now c.args.mode (c.args.mode * 7 + c.as_usize.result) c.args.name
+    c.start-known.result c.args.start c.requires.own
     (ap (λ (n : ℕ). c.args.mode * 7 + n) c.as_usize.ensures.number) c.requires.inside c.requires.named c.start-known.ensures
     (sym c.is_not_known.ensures ∙ c.if-not-is_not_known.false) in
     record {
@@ -169,8 +169,8 @@ returns-in-Ok-clause-answer g c =
 
 pub returns-in-Ok-clause-changes : goal.returns-in-Ok-clause-changes
 returns-in-Ok-clause-changes g c =
-    let empty = unknown_start c.args.dfa.now c.args.cache.now c.args.mode (c.args.mode * 7 + c.as_usize.result) c.args.name c.start-known.result
-    c.args.start c.requires.own
+    let empty = unknown_start c.args.dfa.now c.args.cache.now c.args.mode (c.args.mode * 7 + c.as_usize.result) c.args.name
+    c.start-known.result c.args.start c.requires.own
     (ap (λ (n : ℕ). c.args.mode * 7 + n) c.as_usize.ensures.number) c.requires.inside c.requires.named c.start-known.ensures
     (sym c.is_not_known.ensures ∙ c.if-not-is_not_known.false) in
     record {
@@ -205,8 +205,8 @@ returns-in-Ok-clause-changes g c =
 
 pub returns-in-Ok-clause-made : goal.returns-in-Ok-clause-made
 returns-in-Ok-clause-made g c =
-    let empty = unknown_start c.args.dfa.now c.args.cache.now c.args.mode (c.args.mode * 7 + c.as_usize.result) c.args.name c.start-known.result
-    c.args.start c.requires.own
+    let empty = unknown_start c.args.dfa.now c.args.cache.now c.args.mode (c.args.mode * 7 + c.as_usize.result) c.args.name
+    c.start-known.result c.args.start c.requires.own
     (ap (λ (n : ℕ). c.args.mode * 7 + n) c.as_usize.ensures.number) c.requires.inside c.requires.named c.start-known.ensures
     (sym c.is_not_known.ensures ∙ c.if-not-is_not_known.false) in
     record {

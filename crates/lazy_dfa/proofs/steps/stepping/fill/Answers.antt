@@ -68,31 +68,31 @@ returns-in-Err-clause-step g c = made_step c.args.dfa.now c.args.id (unit_byte c
       noted = search rules;
       ok = search rules;
       err = step_cause c.args.dfa.now c.args.cache.now c.state_after.new.cache c.args.id c.row-k.result
-        (unit_byte c.args.unit) c.in_ok-state.state
-        c.requires.own.shape c.state_after.ensures.same c.row-k.ensures.inside c.row-k.ensures.id c.in_ok-state.ensures.value c.in-Err.e
-        c.requires.unknown c.requires.no_quit c.in-Err.ensures.outcome.err;
+          (unit_byte c.args.unit) c.in_ok-state.state
+          c.requires.own.shape c.state_after.ensures.same c.row-k.ensures.inside c.row-k.ensures.id c.in_ok-state.ensures.value c.in-Err.e
+          c.requires.unknown c.requires.no_quit c.in-Err.ensures.outcome.err;
       gave_up = search rules;
       kept = grew_of c.args.dfa.now c.args.cache.now c.place.new.cache c.is_made.ensures c.requires.own
-        (subst (λ (v : CacheValue). AddsOrClears v c.place.new.cache) c.state_after.ensures.same c.in-Err.ensures.changes.kept);
+          (subst (λ (v : CacheValue). AddsOrClears v c.place.new.cache) c.state_after.ensures.same c.in-Err.ensures.changes.kept);
       remains = search rules;
       cause = ⊎_elim
-        (λ (a : Added c.state_after.new.cache c.place.new.cache). inl (grew_added c.args.dfa.now c.args.cache.now c.place.new.cache
-        c.is_made.ensures c.requires.own (subst (λ (v : CacheValue). Added v c.place.new.cache) c.state_after.ensures.same a)))
-        (λ (n : needs_clear c.args.dfa.now c.state_after.new.cache c.in_ok-state.state ≡ true). inr (
-        step_needs c.args.dfa.now c.args.cache.now c.state_after.new.cache c.args.id c.row-k.result
-        (unit_byte c.args.unit) c.in_ok-state.state
-        c.requires.own.shape c.state_after.ensures.same c.row-k.ensures.inside c.row-k.ensures.id c.in_ok-state.ensures.value
-        c.requires.unknown c.requires.no_quit n
-        ))
-        c.in-Err.ensures.changes.cause;
+          (λ (a : Added c.state_after.new.cache c.place.new.cache). inl (grew_added c.args.dfa.now c.args.cache.now c.place.new.cache
+          c.is_made.ensures c.requires.own (subst (λ (v : CacheValue). Added v c.place.new.cache) c.state_after.ensures.same a)))
+          (λ (n : needs_clear c.args.dfa.now c.state_after.new.cache c.in_ok-state.state ≡ true). inr (
+          step_needs c.args.dfa.now c.args.cache.now c.state_after.new.cache c.args.id c.row-k.result
+          (unit_byte c.args.unit) c.in_ok-state.state
+          c.requires.own.shape c.state_after.ensures.same c.row-k.ensures.inside c.row-k.ensures.id c.in_ok-state.ensures.value
+          c.requires.unknown c.requires.no_quit n
+          ))
+          c.in-Err.ensures.changes.cause;
       adds = step_adds c.args.dfa.now c.args.cache.now c.state_after.new.cache c.place.new.cache c.args.id
-        c.row-k.result (unit_byte c.args.unit) c.in_ok-state.state
-        c.requires.own.shape c.state_after.ensures.same c.row-k.ensures.inside c.row-k.ensures.id c.in_ok-state.ensures.value
-        c.requires.no_quit
-        (comes_written c.args.dfa.now false (Some c.row-k.result) c.in_ok-state.state c.state_after.new.cache c.place.new.cache
-        c.place.new.cache (refl, refl, refl)
-        (Added c.state_after.new.cache c.place.new.cache) (Grew c.args.dfa.now c.args.cache.now c.place.new.cache)
-        (grows_by g c) c.in-Err.ensures.changes.adds);
+          c.row-k.result (unit_byte c.args.unit) c.in_ok-state.state
+          c.requires.own.shape c.state_after.ensures.same c.row-k.ensures.inside c.row-k.ensures.id c.in_ok-state.ensures.value
+          c.requires.no_quit
+          (comes_written c.args.dfa.now false (Some c.row-k.result) c.in_ok-state.state c.state_after.new.cache c.place.new.cache
+          c.place.new.cache (refl, refl, refl)
+          (Added c.state_after.new.cache c.place.new.cache) (Grew c.args.dfa.now c.args.cache.now c.place.new.cache)
+          (grows_by g c) c.in-Err.ensures.changes.adds);
       determinized = search rules;
       inserted = search rules;
     })
@@ -104,64 +104,64 @@ returns-in-Ok-clause-step g c = made_step c.args.dfa.now c.args.id (unit_byte c.
     c.args.work.now.determinized c.state_after.new.work.determinized c.args.work.now.inserted c.state_after.new.work.inserted
     (Ok c.in-Ok.rows.to) c.requires.own.shape c.requires.row c.requires.unknown c.requires.no_quit (record {
       step = steps_of_row c.args.dfa.now c.args.cache.now c.set_cell.new.self c.args.id c.row-k.result
-        (unit_byte c.args.unit) c.in-Ok.rows.to c.requires.own.shape c.row-k.ensures.inside c.row-k.ensures.id
-        (leads_stepped c.args.dfa.now c.place.new.cache c.in-Ok.rows.from c.args.class
-        (unit_byte c.args.unit) c.is_made.ensures c.in-Ok.ensures.own c.requires.unit c.requires.class
-        (state_at c.args.cache.now c.row-k.result) c.in-Ok.rows.to c.set_cell.new.self (led g c) c.set_cell.ensures);
+          (unit_byte c.args.unit) c.in-Ok.rows.to c.requires.own.shape c.row-k.ensures.inside c.row-k.ensures.id
+          (leads_stepped c.args.dfa.now c.place.new.cache c.in-Ok.rows.from c.args.class
+          (unit_byte c.args.unit) c.is_made.ensures c.in-Ok.ensures.own c.requires.unit c.requires.class
+          (state_at c.args.cache.now c.row-k.result) c.in-Ok.rows.to c.set_cell.new.self (led g c) c.set_cell.ensures);
       tag = step_tags c.args.dfa.now c.args.cache.now c.state_after.new.cache c.args.id c.row-k.result
-        (unit_byte c.args.unit) c.in_ok-state.state c.in-Ok.rows.to c.requires.own.shape c.state_after.ensures.same
-        c.row-k.ensures.inside c.row-k.ensures.id c.in_ok-state.ensures.value c.in-Ok.ensures.rows.tag;
+          (unit_byte c.args.unit) c.in_ok-state.state c.in-Ok.rows.to c.requires.own.shape c.state_after.ensures.same
+          c.row-k.ensures.inside c.row-k.ensures.id c.in_ok-state.ensures.value c.in-Ok.ensures.rows.tag;
       noted = set_is_noted c.args.dfa.now c.args.cache.now c.place.new.cache c.set_cell.new.self c.args.id
-        c.in-Ok.rows.from c.args.class c.row-k.result c.in-Ok.rows.to (unit_byte c.args.unit)
-        c.is_made.ensures c.requires.own c.in-Ok.ensures.own c.requires.unit c.requires.class c.row-k.ensures.inside c.row-k.ensures.id
-        (held g c) c.set_cell.ensures;
+          c.in-Ok.rows.from c.args.class c.row-k.result c.in-Ok.rows.to (unit_byte c.args.unit)
+          c.is_made.ensures c.requires.own c.in-Ok.ensures.own c.requires.unit c.requires.class c.row-k.ensures.inside c.row-k.ensures.id
+          (held g c) c.set_cell.ensures;
       ok = no_cause c.args.dfa.now c.args.cache.now c.state_after.new.cache c.args.id c.row-k.result
-        (unit_byte c.args.unit) c.in_ok-state.state
-        c.requires.own.shape c.state_after.ensures.same c.row-k.ensures.inside c.row-k.ensures.id c.in_ok-state.ensures.value
-        c.in-Ok.ensures.outcome.ok;
+          (unit_byte c.args.unit) c.in_ok-state.state
+          c.requires.own.shape c.state_after.ensures.same c.row-k.ensures.inside c.row-k.ensures.id c.in_ok-state.ensures.value
+          c.in-Ok.ensures.outcome.ok;
       err = search rules;
       gave_up = search rules;
       kept = grew_set c.args.dfa.now c.args.cache.now c.place.new.cache c.set_cell.new.self c.args.id c.in-Ok.rows.from
-        c.args.class c.row-k.result c.in-Ok.rows.to (unit_byte c.args.unit)
-        c.is_made.ensures c.requires.own c.in-Ok.ensures.own c.requires.unit c.requires.class c.row-k.ensures.inside c.row-k.ensures.id
-        (held g c) c.set_cell.ensures c.requires.unknown
-        (subst (λ (v : CacheValue). AddsOrClears v c.place.new.cache) c.state_after.ensures.same c.in-Ok.ensures.changes.kept);
+          c.args.class c.row-k.result c.in-Ok.rows.to (unit_byte c.args.unit)
+          c.is_made.ensures c.requires.own c.in-Ok.ensures.own c.requires.unit c.requires.class c.row-k.ensures.inside c.row-k.ensures.id
+          (held g c) c.set_cell.ensures c.requires.unknown
+          (subst (λ (v : CacheValue). AddsOrClears v c.place.new.cache) c.state_after.ensures.same c.in-Ok.ensures.changes.kept);
       remains = remains_set c.args.dfa.now c.args.cache.now c.place.new.cache c.set_cell.new.self c.args.id
-        c.in-Ok.rows.from c.args.class c.row-k.result c.in-Ok.rows.to (unit_byte c.args.unit)
-        c.is_made.ensures c.requires.own c.in-Ok.ensures.own c.requires.unit c.requires.class c.row-k.ensures.inside c.row-k.ensures.id
-        (held g c) c.set_cell.ensures c.in_ok-state.state c.requires.unknown
-        c.in_ok-state.ensures.value
-        (subst (λ (v : CacheValue). Added v c.place.new.cache ⊎ (c.place.new.cache ≡ with_state false c.in_ok-state.state
-        (kept_alone v c.row-k.result))) c.state_after.ensures.same c.in-Ok.ensures.changes.made);
+          c.in-Ok.rows.from c.args.class c.row-k.result c.in-Ok.rows.to (unit_byte c.args.unit)
+          c.is_made.ensures c.requires.own c.in-Ok.ensures.own c.requires.unit c.requires.class c.row-k.ensures.inside c.row-k.ensures.id
+          (held g c) c.set_cell.ensures c.in_ok-state.state c.requires.unknown
+          c.in_ok-state.ensures.value
+          (subst (λ (v : CacheValue). Added v c.place.new.cache ⊎ (c.place.new.cache ≡ with_state false c.in_ok-state.state
+          (kept_alone v c.row-k.result))) c.state_after.ensures.same c.in-Ok.ensures.changes.made);
       cause = ⊎_elim
-        (λ (a : Added c.state_after.new.cache c.place.new.cache). inl (
-        grew_cell c.args.dfa.now c.args.cache.now c.place.new.cache c.set_cell.new.self c.args.id c.in-Ok.rows.from
-        c.args.class c.row-k.result c.in-Ok.rows.to (unit_byte c.args.unit)
-        c.is_made.ensures c.requires.own c.in-Ok.ensures.own c.requires.unit c.requires.class c.row-k.ensures.inside c.row-k.ensures.id
-        (held g c) c.set_cell.ensures c.requires.unknown
-        (subst (λ (v : CacheValue). Added v c.place.new.cache) c.state_after.ensures.same a)
-        ))
-        (λ (n : needs_clear c.args.dfa.now c.state_after.new.cache c.in_ok-state.state ≡ true). inr (
-        step_needs c.args.dfa.now c.args.cache.now c.state_after.new.cache c.args.id c.row-k.result
-        (unit_byte c.args.unit) c.in_ok-state.state
-        c.requires.own.shape c.state_after.ensures.same c.row-k.ensures.inside c.row-k.ensures.id c.in_ok-state.ensures.value
-        c.requires.unknown c.requires.no_quit n
-        ))
-        c.in-Ok.ensures.changes.cause;
+          (λ (a : Added c.state_after.new.cache c.place.new.cache). inl (
+          grew_cell c.args.dfa.now c.args.cache.now c.place.new.cache c.set_cell.new.self c.args.id c.in-Ok.rows.from
+          c.args.class c.row-k.result c.in-Ok.rows.to (unit_byte c.args.unit)
+          c.is_made.ensures c.requires.own c.in-Ok.ensures.own c.requires.unit c.requires.class c.row-k.ensures.inside c.row-k.ensures.id
+          (held g c) c.set_cell.ensures c.requires.unknown
+          (subst (λ (v : CacheValue). Added v c.place.new.cache) c.state_after.ensures.same a)
+          ))
+          (λ (n : needs_clear c.args.dfa.now c.state_after.new.cache c.in_ok-state.state ≡ true). inr (
+          step_needs c.args.dfa.now c.args.cache.now c.state_after.new.cache c.args.id c.row-k.result
+          (unit_byte c.args.unit) c.in_ok-state.state
+          c.requires.own.shape c.state_after.ensures.same c.row-k.ensures.inside c.row-k.ensures.id c.in_ok-state.ensures.value
+          c.requires.unknown c.requires.no_quit n
+          ))
+          c.in-Ok.ensures.changes.cause;
       adds = step_adds c.args.dfa.now c.args.cache.now c.state_after.new.cache c.set_cell.new.self c.args.id
-        c.row-k.result (unit_byte c.args.unit) c.in_ok-state.state
-        c.requires.own.shape c.state_after.ensures.same c.row-k.ensures.inside c.row-k.ensures.id c.in_ok-state.ensures.value
-        c.requires.no_quit
-        (comes_written c.args.dfa.now false (Some c.row-k.result) c.in_ok-state.state c.state_after.new.cache c.place.new.cache
-        c.set_cell.new.self (same_states _ c.set_cell.new.self c.set_cell.ensures)
-        (Added c.state_after.new.cache c.place.new.cache) (Grew c.args.dfa.now c.args.cache.now c.set_cell.new.self)
-        (λ (a : Added c.state_after.new.cache c.place.new.cache).
-        grew_cell c.args.dfa.now c.args.cache.now c.place.new.cache c.set_cell.new.self c.args.id c.in-Ok.rows.from
-        c.args.class c.row-k.result c.in-Ok.rows.to (unit_byte c.args.unit)
-        c.is_made.ensures c.requires.own c.in-Ok.ensures.own c.requires.unit c.requires.class c.row-k.ensures.inside c.row-k.ensures.id
-        (held g c) c.set_cell.ensures c.requires.unknown
-        (subst (λ (v : CacheValue). Added v c.place.new.cache) c.state_after.ensures.same a))
-        c.in-Ok.ensures.changes.adds);
+          c.row-k.result (unit_byte c.args.unit) c.in_ok-state.state
+          c.requires.own.shape c.state_after.ensures.same c.row-k.ensures.inside c.row-k.ensures.id c.in_ok-state.ensures.value
+          c.requires.no_quit
+          (comes_written c.args.dfa.now false (Some c.row-k.result) c.in_ok-state.state c.state_after.new.cache c.place.new.cache
+          c.set_cell.new.self (same_states _ c.set_cell.new.self c.set_cell.ensures)
+          (Added c.state_after.new.cache c.place.new.cache) (Grew c.args.dfa.now c.args.cache.now c.set_cell.new.self)
+          (λ (a : Added c.state_after.new.cache c.place.new.cache).
+          grew_cell c.args.dfa.now c.args.cache.now c.place.new.cache c.set_cell.new.self c.args.id c.in-Ok.rows.from
+          c.args.class c.row-k.result c.in-Ok.rows.to (unit_byte c.args.unit)
+          c.is_made.ensures c.requires.own c.in-Ok.ensures.own c.requires.unit c.requires.class c.row-k.ensures.inside c.row-k.ensures.id
+          (held g c) c.set_cell.ensures c.requires.unknown
+          (subst (λ (v : CacheValue). Added v c.place.new.cache) c.state_after.ensures.same a))
+          c.in-Ok.ensures.changes.adds);
       determinized = search rules;
       inserted = search rules;
     })
