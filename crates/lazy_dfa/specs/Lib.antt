@@ -15,6 +15,7 @@ pub mod Caches
 pub mod Steps
 pub mod StepPromises
 pub mod StartCalls
+pub mod RoomPromises
 pub mod SearchStarts
 pub mod Building
 pub mod Courses

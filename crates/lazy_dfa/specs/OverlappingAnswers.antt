@@ -476,12 +476,20 @@ IsWhichReported d q set after (Err e) old new =
 abbrev pub which_made : Reader → Search → ℕ
 which_made r q = if nat_le q.start q.end then suc (scan_len_of r q.anchored false q.haystack (span_len q) (begins_at r q)) else 0
 
--- what an overlapping search over a whole span does to a set
+-- What an overlapping search over a whole span guarantees, which adds the patterns of its ends to a set: about the set
+-- and its result, its cache and its work. `m1` and `m2` say how many states were made, before and after. `n1` and `n2`
+-- say how many NFA states were inserted into sets for them.
 pub record MakesWhich (d : Dfa) (q : Search) (old new : CacheValue) (m1 m2 n1 n2 : ℕ) (set after : List Bool)
     (result : Result ⊤ MatchErrorKind) : Type 0 where
+  -- it adds the patterns of all ends that it needs, or an allocation failed, or it gave up
   pub answer : AnswersWhich d new q set after result
+  -- the cache keeps what it has, or was cleared
   pub kept : GrowsOrClears d old new
+  -- it makes at most `which_made` states, and inserts at most `most_inserts` NFA states into sets for each of them
   pub determinized : m2 ≤ m1 + which_made (reader d) q
   pub inserted : n2 ≤ n1 + which_made (reader d) q * most_inserts d
+  -- Its states are added one by one, and the cache is cleared only for one of these. After a clear the cache keeps at
+  -- most the state from which the step to that state started.
   pub changes : Changes d (IsMadeOnOverlapping d q) old new (which_made (reader d) q)
+  -- it reports its progress to the cache, whatever its result is
   pub reported : IsWhichReported d q set after result old new

@@ -365,6 +365,12 @@ module _ (d : Dfa) (v : CacheValue) (k : ℕ) (made : IsDfa d) (own : IsCacheOf 
   pub fresh_beside : (b : Bool) (s : StateValue) → row_holding s v.states ≡ None → row_holding s (with_state b x (cleared v)).states ≡ None
   fresh_beside b s none = place_in_one s x (fresh_at s v.states k none l)
 
+  -- after a clear that keeps the state there is room for another one
+  pub fits_beside : (b : Bool) (s : StateValue) → IsStateOf d s → Fits d.capacity s (with_state b x (cleared v))
+  fits_beside b s is =
+      let short = (own.states k l).short in
+      (omega (arith, made.enough, short, is.short, own.stride, own.fresh), omega (arith, (is_cache_kept b).shape.sized, own.shape.narrow))
+
   pub is_cache_refused : (w : CacheValue) → (w ≡ v) ⊎ (w ≡ cleared v) → IsCacheOf d w
   is_cache_refused w e = ⊎_elim (λ (f : w ≡ v). subst (IsCacheOf d) (sym f) own)
       (λ (f : w ≡ cleared v). subst (IsCacheOf d) (sym f) (is_cache_cleared d v own)) e

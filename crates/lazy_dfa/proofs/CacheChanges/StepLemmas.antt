@@ -1,6 +1,7 @@
--- What steps guarantee that make no state: a step from a sentinel, a known step that is read from its cell, and a step by a quit byte.
-use Rattle.std.proofs.Common.{◌≡◌, ℕ, ◌+◌, ◌%◌, true, false, get_or, set, Option, refl, sym, ap, ◌∙◌, subst, inl, inr, ⊎_elim, true≢false}
-use Rattle.std.specs.Prelude.{nat_le, Result, Ok, Err, IfOk}
+-- What steps guarantee. Those that make no state are a step from a sentinel, a known step that is read from its cell, and a step by a
+-- quit byte.
+use Rattle.std.proofs.Common.{◌≡◌, ◌⊎◌, ℕ, ◌+◌, ◌%◌, ◌≤◌, true, false, get_or, set, Option, refl, sym, ap, ◌∙◌, subst, inl, inr, ⊎_elim, true≢false}
+use Rattle.std.specs.Prelude.{nat_le, Result, Ok, Err, IfOk, OnOk, IfErr}
 use Rattle.std.proofs.lemmas.Bool.{cases_Bool}
 use Rattle.lazy_dfa.specs.Caches.{CacheValue, IsShaped, IsCacheOf, IsRow, HeldAt, Leads, state_at}
 use Rattle.lazy_dfa.specs.declared.cache_error.CacheError.{CacheError}
@@ -9,11 +10,12 @@ use Rattle.lazy_dfa.specs.Dfas.{Dfa, IsDfa, IsUnit, class_of}
 use Rattle.lazy_dfa.specs.Ids.{tag, unknown_id, quit_id, is_sentinel}
 use Rattle.lazy_dfa.specs.Readers.{is_quit}
 use Rattle.lazy_dfa.specs.StepPromises.{MakesStep}
-use Rattle.lazy_dfa.specs.Steps.{IsHeld, StepsTo, Grew, IsKnown, noted, most_inserts}
+use Rattle.lazy_dfa.specs.Steps.{IsHeld, StepsTo, Grew, IsKnown, noted, most_inserts, TagsStep, IsNoted, GivesUp, IsStepCause}
+use Rattle.lazy_dfa.specs.Steps.{KeepsOrClears, ClearedFrom, StepNeedsClear, StepAdds}
 use Rattle.lazy_dfa.proofs.CacheChanges.AddsLemmas.{same_states, step_adds_none}
 use Rattle.lazy_dfa.proofs.CacheChanges.ChangeLemmas.{grew_refl, same_grew, added_refl, grew_cell, set_is_noted, no_row, noted_read}
 use Rattle.lazy_dfa.proofs.CacheChanges.ChangeLemmas.{known_cell, unknown_here}
-use Rattle.lazy_dfa.proofs.HalfSearches.CountedLemmas.{none_counted}
+use Rattle.lazy_dfa.proofs.HalfSearches.CountedLemmas.{none_counted, one_counted}
 use Rattle.lazy_dfa.proofs.CacheChanges.IsCacheLemmas.{row_of_held, no_step, known_leads, is_cache_stepped, leads_quit, leads_stepped}
 use Rattle.lazy_dfa.proofs.CacheChanges.IsCacheLemmas.{steps_of_row}
 use Rattle.lazy_dfa.proofs.CacheChanges.LinkedLemmas.{held_leads}
@@ -145,3 +147,43 @@ module _ (d : Dfa) (v new : CacheValue) (id c cell to : ℕ) (u : Option ℕ) (m
     determinized = none_counted m 1;
     inserted = none_counted n (most_inserts d);
   }
+
+-- what a step guarantees that isn't known and isn't by a quit byte
+pub record Makes (d : Dfa) (id : ℕ) (u : Option ℕ) (old new : CacheValue) (m1 m2 n1 n2 : ℕ) (r : Result ℕ CacheError) : Type 0 where
+  pub step : IfOk r (λ to. StepsTo d old new id u to)
+  pub tag : IfOk r (λ to. TagsStep d old id u to)
+  pub noted : IfOk r (λ to. IsNoted d old new id u to)
+  pub ok : OnOk r (¬ GivesUp d old id u)
+  pub err : IfErr r (λ e. IsStepCause d old id u e)
+  pub gave_up : r ≡ Err GaveUp → new ≡ old
+  pub kept : KeepsOrClears d old new
+  pub remains : OnOk r (Grew d old new ⊎ ClearedFrom d old new id u)
+  pub cause : Grew d old new ⊎ StepNeedsClear d old id u
+  pub adds : StepAdds d old new id u
+  pub determinized : m2 ≡ m1 + 1
+  pub inserted : n2 ≤ n1 + most_inserts d
+
+-- all else that steps guarantee is about other steps
+pub made_step : (d : Dfa) (id : ℕ) (u : Option ℕ) (old new : CacheValue) (m1 m2 n1 n2 : ℕ) (r : Result ℕ CacheError) → IsShaped old →
+    IsRow old id → noted d old id u ≡ unknown_id → is_quit d.quits u ≡ false → Makes d id u old new m1 m2 n1 n2 r →
+    MakesStep d id u old new m1 m2 n1 n2 r
+made_step d id u old new m1 m2 n1 n2 r shape row unknown quiet x = record {
+  loops = λ is. absurd (no_row old id shape is row);
+  quits = λ plain q. absurd (true≢false (sym q ∙ quiet));
+  step = x.step;
+  tag = x.tag;
+  known = λ plain k. absurd (k unknown);
+  noted = x.noted;
+  ok = x.ok;
+  err = x.err;
+  gave_up = x.gave_up;
+  kept = x.kept;
+  remains = x.remains;
+  cause = x.cause;
+  adds = x.adds;
+  same = λ k. absurd (not_known_there d old id u shape row unknown k);
+  free = λ k. absurd (not_known_there d old id u shape row unknown k);
+  spares = λ q. absurd (true≢false (sym q ∙ quiet));
+  determinized = one_counted m2 m1 x.determinized;
+  inserted = x.inserted;
+}

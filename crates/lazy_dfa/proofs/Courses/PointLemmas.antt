@@ -17,7 +17,7 @@ use Rattle.lazy_dfa.specs.Courses.{state_after, best_after}
 use Rattle.lazy_dfa.specs.declared.cache.progress.Progress.{Progress}
 use Rattle.lazy_dfa.specs.Dfas.{Dfa, IsDfa, IsUnit, after, reader}
 use Rattle.lazy_dfa.specs.Ids.{tag, tagged, unknown_id, is_sentinel}
-use Rattle.lazy_dfa.specs.Linked.{led, id_after, IsLinkedOver, CacheGrows, HasCleared}
+use Rattle.lazy_dfa.specs.Linked.{led, id_after, IsLinkedOver, HasCleared}
 use Rattle.lazy_dfa.specs.ScanLaws.{unit_of}
 use Rattle.lazy_dfa.specs.Scans.{best_recorded, is_dead}
 use Rattle.lazy_dfa.specs.Points.{Point, began, Follows, IsFree, GoesTo, point}

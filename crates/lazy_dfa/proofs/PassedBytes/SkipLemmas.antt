@@ -5,7 +5,7 @@ use Rattle.lazy_dfa.specs.Dfas.{Dfa, IsDfa, class_of}
 use Rattle.lazy_dfa.specs.Ids.{tag}
 use Rattle.lazy_dfa.specs.Points.{GoesTo, point}
 use Rattle.lazy_dfa.specs.Skips.{StaysOver}
-use Rattle.lazy_dfa.specs.Stretches.{MovesTo}
+use Rattle.lazy_dfa.specs.Stretches.{MovesTo, SkipsTo}
 use Rattle.lazy_dfa.specs.declared.search.runs.Moved.{Moved}
 use Rattle.lazy_dfa.proofs.CacheChanges.ChangeLemmas.{plain_noted}
 use Rattle.lazy_dfa.proofs.CacheChanges.LinkedLemmas.{AreBytes}
@@ -105,6 +105,43 @@ module _ (d : Dfa) (v : CacheValue) (h : List ℕ) (made : IsDfa d) (own : IsCac
         subst (λ (j : ℕ). GoesTo d h (point v m n at id best) (point v m n j id best) 2) (omega arith)
         (subst (GoesTo d h (point v m n at id best) (point v m n (at + 1 + 1) id best)) (omega arith) twice)
 
+  -- nothing is read
+  pub reads_none : (a : Moved) (end : ℕ) → IsRow v a.id → a.id < tag → a.at ≤ end → MovesTo d v h a end a
+  reads_none a end row plain fits = record {
+    row = row;
+    untagged = plain;
+    past = omega arith;
+    within = fits;
+    goes = runs_none d v h a.at a.id (a.at - a.at) own row (omega arith);
+  }
+
+  -- one more byte is read, whose step is known
+  pub reads_byte : (a b : Moved) (end : ℕ) → IsRow v a.id → MovesTo d v h a end b → b.at < end → end ≤ length h →
+      (next c : ℕ) → c ≡ class_of d.classes (Some (get_or h b.at 0)) → next ≡ get_or v.cells (b.id + c) 0 → next < tag →
+      MovesTo d v h a end (record { at = b.at + 1; id = next })
+  reads_byte a b end row reads more fits next c class read plain =
+      let inside : b.at < length h = omega (arith, more, fits) in
+      record {
+        row = row_on a.at a.id b.at b.id row reads.row reads.untagged reads.past inside reads.goes next c class read plain;
+        untagged = plain;
+        past = omega (arith, reads.past);
+        within = omega (arith, more);
+        goes = way_on a.at a.id b.at b.id row reads.row reads.untagged reads.past inside reads.goes next c class read plain;
+      }
+
+  -- the same if bytes are counted
+  pub counts_none : (a : Moved) (most : ℕ) → IsRow v a.id → a.id < tag → MovesTo d v h a (a.at + most) (record { at = a.at + 0; id = a.id })
+  counts_none a most row plain = subst (λ (j : ℕ). MovesTo d v h a (a.at + most) (record { at = j; id = a.id })) (omega arith)
+      (reads_none a (a.at + most) row plain (omega arith))
+
+  pub counts_byte : (a : Moved) (k id most : ℕ) → IsRow v a.id → MovesTo d v h a (a.at + most) (record { at = a.at + k; id = id }) →
+      k < most → a.at + most ≤ length h →
+      (next c : ℕ) → c ≡ class_of d.classes (Some (get_or h (a.at + k) 0)) → next ≡ get_or v.cells (id + c) 0 → next < tag →
+      MovesTo d v h a (a.at + most) (record { at = a.at + (k + 1); id = next })
+  counts_byte a k id most row reads more fits next c class read plain =
+      subst (λ (j : ℕ). MovesTo d v h a (a.at + most) (record { at = j; id = next })) (omega arith)
+      (reads_byte a (record { at = a.at + k; id = id }) (a.at + most) row reads (omega (arith, more)) fits next c class read plain)
+
   -- what is read further, after what was read
   pub reads_on : (a b c : Moved) (middle end : ℕ) → IsRow v a.id → MovesTo d v h a middle b → MovesTo d v h b end c → MovesTo d v h a end c
   reads_on a b c middle end row before on = record {
@@ -115,15 +152,24 @@ module _ (d : Dfa) (v : CacheValue) (h : List ℕ) (made : IsDfa d) (own : IsCac
     goes = way_behind a.at a.id b.at b.id c.at c.id row before.row before.past on.past before.goes on.goes;
   }
 
-  pub reads_walk : (a : Moved) (k next end : ℕ) → IsRow v next → next < tag → a.at + k ≤ end →
-      ((m n : ℕ) (best : Option (ℕ × ℕ)) → GoesTo d h (point v m n a.at a.id best) (point v m n (a.at + k) next best) (a.at + k - a.at)) →
-      MovesTo d v h a end (record { at = a.at + k; id = next })
-  reads_walk a k next end row plain within goes = record {
-    row = row;
-    untagged = plain;
-    past = omega arith;
+  -- bytes that leave the state as it is are skipped, too
+  pub skips_over : (id from at to end : ℕ) → IsRow v id → id < tag → SkipsTo d v h id from end at → at ≤ to → to ≤ end → end ≤ length h →
+      StaysOver v.cells v.classes h id at to → SkipsTo d v h id from end to
+  skips_over id from at to end row plain before further within fits stays = record {
+    past = omega (arith, before.past, further);
     within = within;
-    goes = goes;
+    goes = way_over from id at id row row plain before.past before.goes to further (omega (arith, within, fits)) stays;
+  }
+
+  -- bytes are skipped, after what was read
+  pub reads_skip : (a b : Moved) (end to : ℕ) → IsRow v a.id → MovesTo d v h a end b → SkipsTo d v h b.id b.at end to →
+      MovesTo d v h a end (record { at = to; id = b.id })
+  reads_skip a b end to row before skips = record {
+    row = before.row;
+    untagged = before.untagged;
+    past = omega (arith, before.past, skips.past);
+    within = skips.within;
+    goes = way_behind a.at a.id b.at b.id to b.id row before.row before.past skips.past before.goes skips.goes;
   }
 
   pub reads_within : (a b : Moved) (middle end : ℕ) → MovesTo d v h a middle b → middle ≤ end → MovesTo d v h a end b
@@ -134,6 +180,12 @@ module _ (d : Dfa) (v : CacheValue) (h : List ℕ) (made : IsDfa d) (own : IsCac
     within = omega (arith, reads.within, l);
     goes = reads.goes;
   }
+
+  -- what is read further, over an equal cache and not so far
+  pub reads_there : (w : CacheValue) → w ≡ v → (a b c : Moved) (middle end : ℕ) → IsRow v a.id → MovesTo d v h a end b →
+      MovesTo d w h b middle c → middle ≤ end → MovesTo d v h a end c
+  reads_there w same a b c middle end row before on l = reads_on a b c end end row before
+      (reads_within b c middle end (subst (λ (x : CacheValue). MovesTo d x h b middle c) same on) l)
 
   pub reads_thrice : (a b c e : Moved) (end : ℕ) → IsRow v a.id → MovesTo d v h a end b → MovesTo d v h b end c → MovesTo d v h c end e →
       MovesTo d v h a end e

@@ -9,6 +9,7 @@ ghost use Rattle.lazy_dfa.specs.Ids.{tag};
 ghost use Rattle.lazy_dfa.specs.Points.{GoesTo, point};
 ghost use Rattle.lazy_dfa.specs.AccelBytes.{leaves};
 ghost use Rattle.lazy_dfa.specs.Skips.{cell_by, AreSkipped, IsSkip};
+ghost use Rattle.lazy_dfa.specs.Stretches.{SkipsTo};
 
 use crate::accel::accel_bytes::Leaving;
 use crate::accel::byte_tests::{ByteTest, Either, OneByte, find_by};
@@ -77,10 +78,7 @@ fn circle<T: ByteTest>(
     requires fits { from ≤ end }
     requires within { end ≤ length haystack.now }
     requires stays { (byte : ℕ) → byte < 256 → T.passes test.now byte ≡ false → cell_by cache.now.cells cache.now.classes id byte ≡ id }
-    ensures past { from ≤ result.at }
-    ensures within { result.at ≤ end }
-    ensures goes { (m n : ℕ) (best : Option (ℕ × ℕ)) →
-        GoesTo dfa.now haystack.now (point cache.now m n from id best) (point cache.now m n result.at id best) (result.at - from) }
+    ensures { SkipsTo dfa.now cache.now haystack.now id from end result.at }
 {
     dfa.is_made();
     let mut at = from;
@@ -131,10 +129,7 @@ fn circle_by_pairs<T: ByteTest>(
     requires fits { from ≤ end }
     requires within { end ≤ length haystack.now }
     requires pairs { AreSkipped cache.now.cells cache.now.classes id (T.passes test.now) (in_halves behind.now.low behind.now.high) }
-    ensures past { from ≤ result.at }
-    ensures within { result.at ≤ end }
-    ensures goes { (m n : ℕ) (best : Option (ℕ × ℕ)) →
-        GoesTo dfa.now haystack.now (point cache.now m n from id best) (point cache.now m n result.at id best) (result.at - from) }
+    ensures { SkipsTo dfa.now cache.now haystack.now id from end result.at }
 {
     dfa.is_made();
     let to = find_pair(test, behind, haystack, from, end);
@@ -166,10 +161,7 @@ fn circle_few<T: ByteTest>(
     requires stop { skip.now.stop ≡ id }
     requires noted { IsSkip cache.now.cells cache.now.classes skip.now }
     requires same { (byte : ℕ) → T.passes test.now byte ≡ leaves skip.now.leaving byte }
-    ensures past { from ≤ result.at }
-    ensures within { result.at ≤ end }
-    ensures goes { (m n : ℕ) (best : Option (ℕ × ℕ)) →
-        GoesTo dfa.now haystack.now (point cache.now m n from id best) (point cache.now m n result.at id best) (result.at - from) }
+    ensures { SkipsTo dfa.now cache.now haystack.now id from end result.at }
 {
     match &skip.behind {
         Some(behind) => circle_by_pairs(
@@ -203,10 +195,7 @@ fn circle_by(
     requires untagged { id < tag }
     requires fits { from ≤ end }
     requires within { end ≤ length haystack.now }
-    ensures past { from ≤ result.at }
-    ensures within { result.at ≤ end }
-    ensures goes { (m n : ℕ) (best : Option (ℕ × ℕ)) →
-        GoesTo dfa.now haystack.now (point cache.now m n from id best) (point cache.now m n result.at id best) (result.at - from) }
+    ensures { SkipsTo dfa.now cache.now haystack.now id from end result.at }
 {
     dfa.is_made();
     let skip = cache.skip();
@@ -253,10 +242,7 @@ pub(crate) fn skip_over(
     requires fits { from ≤ end }
     requires within { end ≤ length haystack.now }
     ensures same { cache.new ≡ cache.old }
-    ensures past { from ≤ result }
-    ensures within { result ≤ end }
-    ensures goes { (m n : ℕ) (best : Option (ℕ × ℕ)) →
-        GoesTo dfa.now haystack.now (point cache.old m n from id best) (point cache.old m n result id best) (result - from) }
+    ensures skips { SkipsTo dfa.now cache.old haystack.now id from end result }
 {
     if from == end {
         return end;

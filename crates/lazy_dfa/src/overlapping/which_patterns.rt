@@ -1,15 +1,11 @@
 //! Which patterns match: those of all ends of an overlapping search.
-ghost use Rattle.std.specs.Prelude.{◌≡◌, ◌+◌, ◌*◌, ◌<◌, ◌≤◌, ◌||◌, false, None, Ok, IfErr};
+ghost use Rattle.std.specs.Prelude.{◌≡◌, ◌<◌, ◌||◌, false, None, Ok, IfErr};
 ghost use Rattle.search_types.specs.declared.match_error.MatchErrorKind.TheVariants.{NoMemory};
 ghost use Rattle.lazy_dfa.specs.Caches.{IsCacheOf};
-ghost use Rattle.lazy_dfa.specs.Changes.{Changes};
 ghost use Rattle.lazy_dfa.specs.ConfigValue.{clears_of};
 ghost use Rattle.lazy_dfa.specs.Dfas.{reader};
-ghost use Rattle.lazy_dfa.specs.Linked.{GrowsOrClears};
-ghost use Rattle.lazy_dfa.specs.Steps.{most_inserts};
 ghost use Rattle.lazy_dfa.specs.Overlapping.{whole_rest};
-ghost use Rattle.lazy_dfa.specs.OverlappingAnswers.{AnswersWhich, MakesWhich, with_pattern, is_full, which_made, IsMadeOnOverlapping};
-ghost use Rattle.lazy_dfa.specs.OverlappingAnswers.{IsWhichReported};
+ghost use Rattle.lazy_dfa.specs.OverlappingAnswers.{MakesWhich, with_pattern, is_full};
 
 use crate::automaton::dfa::{Cache, DFA};
 use crate::overlapping::call;
@@ -90,16 +86,11 @@ impl DFA {
         requires own { IsCacheOf self.now cache.old }
         requires is_forward { self.now.nfa.automaton.reverse ≡ false }
         ensures own { IsCacheOf self.now cache.new }
-        ensures answer { AnswersWhich self.now cache.new input.now patterns.old patterns.new result }
+        ensures which { MakesWhich self.now input.now cache.old cache.new work.old.determinized work.new.determinized work.old.inserted
+            work.new.inserted patterns.old patterns.new result }
         ensures done { input.now.end < input.now.start → (result ≡ Ok tt) × (cache.new ≡ cache.old) × (patterns.new ≡ patterns.old) }
         ensures sure { clears_of self.now.options ≡ None → (whole_rest (reader self.now) input.now).rejection ≡ None →
             IfErr result (λ e. e ≡ NoMemory) }
-        ensures kept { GrowsOrClears self.now cache.old cache.new }
-        ensures changes { Changes self.now (IsMadeOnOverlapping self.now input.now) cache.old cache.new (which_made (reader self.now)
-            input.now) }
-        ensures reported { IsWhichReported self.now input.now patterns.old patterns.new result cache.old cache.new }
-        ensures determinized { work.new.determinized ≤ work.old.determinized + which_made (reader self.now) input.now }
-        ensures inserted { work.new.inserted ≤ work.old.inserted + which_made (reader self.now) input.now * most_inserts self.now }
     {
         if input.is_done() {
             return Ok(());

@@ -3,10 +3,10 @@
 //! A byte loop waits for one load per byte, and another load could run meanwhile. So a second loop starts further on, in any
 //! state. After a few bytes it is usually in the state that the first loop will reach there, since few bytes decide which state
 //! an unanchored search reaches. If the first loop does reach that state, both loops count. Otherwise the first one alone counts.
-ghost use Rattle.std.specs.Prelude.{◌≡◌, ℕ, ◌+◌, ◌-◌, ◌<◌, ◌≤◌, false, true, length, Option};
+ghost use Rattle.std.specs.Prelude.{◌≡◌, ◌+◌, ◌<◌, ◌≤◌, false, true, length};
 ghost use Rattle.lazy_dfa.specs.Caches.{IsCacheOf, IsRow};
 ghost use Rattle.lazy_dfa.specs.Ids.{tag};
-ghost use Rattle.lazy_dfa.specs.Points.{GoesTo, point};
+ghost use Rattle.lazy_dfa.specs.Stretches.{MovesTo};
 
 use crate::automaton::dfa::{Cache, DFA};
 use crate::lazy_id::LazyStateID;
@@ -37,13 +37,9 @@ pub(crate) fn walk_forward(
     requires untagged { id < tag }
     requires fits { from ≤ limit }
     requires within { limit ≤ length haystack.now }
-    ensures row { IsRow cache.now result.id }
-    ensures untagged { result.id < tag }
-    ensures past { from ≤ result.at }
-    ensures within { result.at ≤ limit }
+    ensures moves { MovesTo dfa.now cache.now haystack.now (record { at = from; id = id }) limit
+        (record { at = result.at; id = result.id }) }
     ensures further { result.pauses ≡ true → from < result.at }
-    ensures goes { (m n : ℕ) (best : Option (ℕ × ℕ)) →
-        GoesTo dfa.now haystack.now (point cache.now m n from id best) (point cache.now m n result.at result.id best) (result.at - from) }
 {
     dfa.is_made();
     let mut at = from;
@@ -102,17 +98,10 @@ pub(crate) fn walk_both(
     requires second_untagged { second < tag }
     requires fits { from + count ≤ length haystack.now }
     requires within { further + count ≤ length haystack.now }
-    ensures row { IsRow cache.now result.first }
-    ensures untagged { result.first < tag }
-    ensures second_row { IsRow cache.now result.second }
-    ensures second_untagged { result.second < tag }
-    ensures most { result.count ≤ count }
-    ensures goes { (m n : ℕ) (best : Option (ℕ × ℕ)) →
-        GoesTo dfa.now haystack.now (point cache.now m n from first best) (point cache.now m n (from + result.count) result.first best)
-        (from + result.count - from) }
-    ensures second_goes { (m n : ℕ) (best : Option (ℕ × ℕ)) →
-        GoesTo dfa.now haystack.now (point cache.now m n further second best)
-        (point cache.now m n (further + result.count) result.second best) (further + result.count - further) }
+    ensures first { MovesTo dfa.now cache.now haystack.now (record { at = from; id = first }) (from + count)
+        (record { at = from + result.count; id = result.first }) }
+    ensures second { MovesTo dfa.now cache.now haystack.now (record { at = further; id = second }) (further + count)
+        (record { at = further + result.count; id = result.second }) }
 {
     dfa.is_made();
     let mut one = first;

@@ -190,9 +190,10 @@ pub(crate) fn run(
     }
 }
 
-/// Follows known steps up to the last position of the span: while no state has a tag, and then through matching states too.
-#[inline(always)]
-fn run_known(
+/// Follows known steps after a turn: while no state has a tag, and then through matching states too. This is rarely needed. It is
+/// a function of its own, so that a scan's code has the loops of runs just once.
+#[inline(never)]
+fn run_further(
     dfa: &DFA,
     cache: &mut Cache,
     input: &Input<'_>,
@@ -216,32 +217,6 @@ fn run_known(
     see_bytes(input.haystack());
     let next = run(dfa, cache, input, is_reverse, position);
     linger(dfa, cache, input, is_reverse, next)
-}
-
-/// Does what `run_known` does, after a turn. This is rarely needed. It is a function of its own, so that a scan's code has the
-/// loops of runs just once.
-#[inline(never)]
-fn run_further(
-    dfa: &DFA,
-    cache: &mut Cache,
-    input: &Input<'_>,
-    is_reverse: bool,
-    position: Position,
-) -> Position
-    requires own { IsCacheOf dfa.now cache.old }
-    requires is_reverse { is_reverse ≡ dfa.now.nfa.automaton.reverse }
-    requires row { IsRow cache.old position.id }
-    requires within { IsWithinSpan input.now position.at }
-    ensures same { cache.new ≡ cache.old }
-    ensures row { IsRow cache.old result.id }
-    ensures within { IsWithinSpan input.now result.at }
-    ensures closer { left_at is_reverse input.now result.at ≤ left_at is_reverse input.now position.at }
-    ensures goes { (m n : ℕ) → GoesBetween dfa.now input.now.earliest input.now.haystack
-        (point cache.old m n position.at position.id (pair_of position.best))
-        (point cache.old m n result.at result.id (pair_of result.best))
-        (left_at is_reverse input.now position.at - left_at is_reverse input.now result.at) }
-{
-    run_known(dfa, cache, input, is_reverse, position)
 }
 
 /// A turn by a byte of the span, wherever it leads.
@@ -268,17 +243,15 @@ fn living_turn<L: Ledger, M: Ledger>(
     let haystack = input.haystack();
     let index = index_at(position.at, is_reverse);
     let byte = haystack[index];
-    let unit = Some(byte);
-    let earliest = input.get_earliest();
     cache.search_update(index);
     let seen = match make_turn(
         dfa,
         cache,
         position.id,
-        unit,
+        Some(byte),
         position.at,
         position.best,
-        earliest,
+        input.get_earliest(),
         work,
     ) {
         Ok(seen) => seen,
@@ -454,7 +427,8 @@ fn go_on<L: Ledger, M: Ledger>(
         id,
         best: None,
     };
-    let mut position = run_known(dfa, cache, input, is_reverse, first);
+    let next = run(dfa, cache, input, is_reverse, first);
+    let mut position = linger(dfa, cache, input, is_reverse, next);
     loop {
         let turned = match turn_at(dfa, cache, input, is_reverse, position, work) {
             Ok(turned) => turned,

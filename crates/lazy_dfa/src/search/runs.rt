@@ -1,9 +1,8 @@
 //! Loops over known steps, in which searches spend their time. They only read.
-ghost use Rattle.std.specs.Prelude.{◌≡◌, ℕ, ◌+◌, ◌-◌, ◌<◌, ◌≤◌, false, true, length, Option, slice_index_or};
+ghost use Rattle.std.specs.Prelude.{◌≡◌, ℕ, ◌+◌, ◌<◌, ◌≤◌, false, true, length, slice_index_or};
 ghost use Rattle.lazy_dfa.specs.Caches.{IsCacheOf, IsRow};
 ghost use Rattle.lazy_dfa.specs.Ids.{tag};
-ghost use Rattle.lazy_dfa.specs.Points.{GoesTo, point};
-ghost use Rattle.lazy_dfa.specs.Stretches.{MovesTo};
+ghost use Rattle.lazy_dfa.specs.Stretches.{MovesBackTo, MovesTo};
 
 use crate::accel::accel_rounds::skip_over;
 use crate::automaton::dfa::{Cache, DFA};
@@ -48,12 +47,7 @@ fn skip_forward(
     requires fits { from ≤ end }
     requires within { end ≤ length haystack.now }
     ensures same { cache.new ≡ cache.old }
-    ensures row { IsRow cache.old result.id }
-    ensures untagged { result.id < tag }
-    ensures past { from ≤ result.at }
-    ensures within { result.at ≤ end }
-    ensures goes { (m n : ℕ) (best : Option (ℕ × ℕ)) →
-        GoesTo dfa.now haystack.now (point cache.old m n from id best) (point cache.old m n result.at result.id best) (result.at - from) }
+    ensures moves { MovesTo dfa.now cache.old haystack.now (record { at = from; id = id }) end result }
 {
     dfa.is_made();
     let mut at = from;
@@ -206,12 +200,7 @@ pub(crate) fn run_forward(
     requires fits { from ≤ end }
     requires within { end ≤ length haystack.now }
     ensures same { cache.new ≡ cache.old }
-    ensures row { IsRow cache.old result.id }
-    ensures untagged { result.id < tag }
-    ensures past { from ≤ result.at }
-    ensures within { result.at ≤ end }
-    ensures goes { (m n : ℕ) (best : Option (ℕ × ℕ)) →
-        GoesTo dfa.now haystack.now (point cache.old m n from id best) (point cache.old m n result.at result.id best) (result.at - from) }
+    ensures moves { MovesTo dfa.now cache.old haystack.now (record { at = from; id = id }) end result }
 {
     dfa.is_made();
     let near = from + (end - from).min(FEW);
@@ -244,12 +233,7 @@ pub(crate) fn run_reverse(
     requires untagged { id < tag }
     requires fits { end ≤ from }
     requires within { from ≤ length haystack.now }
-    ensures row { IsRow cache.now result.id }
-    ensures untagged { result.id < tag }
-    ensures past { result.at ≤ from }
-    ensures within { end ≤ result.at }
-    ensures goes { (m n : ℕ) (best : Option (ℕ × ℕ)) →
-        GoesTo dfa.now haystack.now (point cache.now m n from id best) (point cache.now m n result.at result.id best) (from - result.at) }
+    ensures { MovesBackTo dfa.now cache.now haystack.now (record { at = from; id = id }) end result }
 {
     dfa.is_made();
     let mut at = from;

@@ -1,18 +1,14 @@
 //! Steps from state to state over a cache.
-ghost use Rattle.std.specs.Prelude.{◌≡◌, ◌⊎◌, ◌+◌, ◌%◌, ◌<◌, ◌≤◌, false, length, IfOk, OnOk, IfErr, Ok, Err, None, Some, true};
+ghost use Rattle.std.specs.Prelude.{◌≡◌, ◌+◌, ◌<◌, ◌≤◌, false, length, IfOk, None};
 ghost use Rattle.search_core.specs.Units.{unit_byte};
-ghost use Rattle.determinize_core.specs.Costs.{free_ways};
 ghost use Rattle.lazy_dfa.specs.Dfas.{IsStateOf, IsUnit, after, class_of, is_dead};
-ghost use Rattle.lazy_dfa.specs.Ids.{unknown_id, has_tag, start_tag};
-ghost use Rattle.lazy_dfa.specs.Caches.{IsCacheOf, HeldAt, IsRow, Names, Fits, fits, is_clear_denied, row_holding, state_at, with_state};
-ghost use Rattle.lazy_dfa.specs.Caches.{needs_clear, has_no_room};
+ghost use Rattle.lazy_dfa.specs.Ids.{unknown_id};
+ghost use Rattle.lazy_dfa.specs.Caches.{IsCacheOf, HeldAt, IsRow, fits, is_clear_denied, row_holding, state_at};
 ghost use Rattle.lazy_dfa.specs.ConfigValue.{clears_of, minimum_bytes_of};
-ghost use Rattle.lazy_dfa.specs.declared.cache_error.CacheError.TheVariants.{GaveUp};
 ghost use Rattle.lazy_dfa.specs.Readers.{is_quit, is_quit as is_quit_unit};
+ghost use Rattle.lazy_dfa.specs.RoomPromises.{AddsBeside, ClearsBeside, FindsRoom, LeavesRoom, NamesStep};
 ghost use Rattle.lazy_dfa.specs.StepPromises.{MakesStep};
-ghost use Rattle.lazy_dfa.specs.Steps.{IsHeld, IsCause, GivesUp, IsStepCause, StepsTo, Added, Grew, StepNeedsClear, ClearedFrom};
-ghost use Rattle.lazy_dfa.specs.Steps.{kept_alone, MadeRoom, AddsOrClears, KeepsOrClears, noted, IsNoted, TagsStep, ClearsFor, ComesTo};
-ghost use Rattle.lazy_dfa.specs.Steps.{StepAdds, most_inserts};
+ghost use Rattle.lazy_dfa.specs.Steps.{IsHeld, noted, most_inserts};
 
 use crate::automaton::dfa::{Cache, DFA};
 use crate::cache_error::CacheError;
@@ -73,16 +69,10 @@ fn make_room(
     requires alive { is_dead state.now ≡ false }
     requires fresh { row_holding state.now cache.old.states ≡ None }
     ensures own { IsCacheOf dfa.now cache.new }
-    ensures room { MadeRoom cache.old cache.new }
-    ensures made { OnOk result ((cache.new ≡ cache.old) ⊎ (cache.new ≡ kept_alone cache.old k)) }
-    ensures cause { (cache.new ≡ cache.old) ⊎ (needs_clear dfa.now cache.old state.now ≡ true) }
-    ensures clears { (cache.new ≡ cache.old) ⊎ ClearsFor dfa.now (Some k) state.now cache.old cache.new }
-    ensures gave_up { result ≡ Err GaveUp → cache.new ≡ cache.old }
     ensures from { IfOk result (λ id. HeldAt cache.new id (state_at cache.old k)) }
-    ensures fresh { OnOk result (row_holding state.now cache.new.states ≡ None) }
-    ensures fits { OnOk result (Fits dfa.now.capacity state.now cache.new) }
-    ensures ok { OnOk result (has_no_room dfa.now cache.old state.now ≡ false) }
-    ensures err { IfErr result (λ e. IsCause dfa.now cache.old state.now e) }
+    ensures room { LeavesRoom dfa.now state.now cache.new result }
+    ensures changes { ClearsBeside dfa.now k state.now cache.old cache.new result }
+    ensures outcome { FindsRoom dfa.now state.now cache.old result }
 {
     dfa.is_made();
     cache.stride();
@@ -110,17 +100,9 @@ fn place(dfa: &DFA, cache: &mut Cache, k: usize, state: State) -> Result<Rows, C
     requires row { k < length cache.old.states }
     requires is { IsStateOf dfa.now state }
     ensures own { IsCacheOf dfa.now cache.new }
-    ensures kept { AddsOrClears cache.old cache.new }
-    ensures made { OnOk result (Added cache.old cache.new ⊎ (cache.new ≡ with_state false state (kept_alone cache.old k))) }
-    ensures cause { Added cache.old cache.new ⊎ (needs_clear dfa.now cache.old state ≡ true) }
-    ensures adds { ComesTo (Added cache.old cache.new) dfa.now false (Some k) state cache.old cache.new }
-    ensures gave_up { result ≡ Err GaveUp → cache.new ≡ cache.old }
-    ensures from { IfOk result (λ rows. HeldAt cache.new rows.from (state_at cache.old k)) }
-    ensures to { IfOk result (λ rows. Names cache.new rows.to state) }
-    ensures tag { IfOk result (λ rows. is_dead state ≡ false → row_holding state cache.old.states ≡ None →
-        has_tag start_tag rows.to ≡ false) }
-    ensures ok { OnOk result (has_no_room dfa.now cache.old state ≡ false) }
-    ensures err { IfErr result (λ e. IsCause dfa.now cache.old state e) }
+    ensures rows { IfOk result (λ rows. NamesStep k state cache.old cache.new rows.from rows.to) }
+    ensures changes { AddsBeside dfa.now k state cache.old cache.new result }
+    ensures outcome { FindsRoom dfa.now state cache.old result }
 {
     dfa.is_made();
     let stride = cache.stride();
@@ -182,18 +164,9 @@ fn fill<L: Ledger, M: Ledger>(
     requires class { class ≡ class_of dfa.now.classes (unit_byte unit) }
     requires unknown { noted dfa.now cache.old id (unit_byte unit) ≡ unknown_id }
     ensures own { IsCacheOf dfa.now cache.new }
-    ensures kept { KeepsOrClears dfa.now cache.old cache.new }
-    ensures remains { OnOk result (Grew dfa.now cache.old cache.new ⊎ ClearedFrom dfa.now cache.old cache.new id (unit_byte unit)) }
-    ensures cause { Grew dfa.now cache.old cache.new ⊎ StepNeedsClear dfa.now cache.old id (unit_byte unit) }
-    ensures adds { StepAdds dfa.now cache.old cache.new id (unit_byte unit) }
-    ensures gave_up { result ≡ Err GaveUp → cache.new ≡ cache.old }
-    ensures step { IfOk result (λ to. StepsTo dfa.now cache.old cache.new id (unit_byte unit) to) }
-    ensures noted { IfOk result (λ to. IsNoted dfa.now cache.old cache.new id (unit_byte unit) to) }
-    ensures tag { IfOk result (λ to. TagsStep dfa.now cache.old id (unit_byte unit) to) }
-    ensures ok { OnOk result (¬ GivesUp dfa.now cache.old id (unit_byte unit)) }
-    ensures err { IfErr result (λ e. IsStepCause dfa.now cache.old id (unit_byte unit) e) }
+    ensures step { MakesStep dfa.now id (unit_byte unit) cache.old cache.new work.old.determinized work.new.determinized
+        work.old.inserted work.new.inserted result }
     ensures determinized { work.new.determinized ≡ work.old.determinized + 1 }
-    ensures inserted { work.new.inserted ≤ work.old.inserted + most_inserts dfa.now }
 {
     dfa.is_made();
     let k = cache.row(id);

@@ -1,7 +1,7 @@
-use Rattle.std.proofs.Common.{◌-◌, ◌+◌, ◌≤◌, ℕ, get_or, refl, subst, arith}
+use Rattle.std.proofs.Common.{◌-◌, ◌+◌, ℕ, get_or, refl, subst, arith}
 use Rattle.lazy_dfa.specs.Points.{GoesTo, point}
 use Rattle.lazy_dfa.proofs.Courses.PointLemmas.{runs_none}
-use Rattle.lazy_dfa.proofs.PassedBytes.SkipLemmas.{way_behind, way_over}
+use Rattle.lazy_dfa.proofs.PassedBytes.SkipLemmas.{skips_over, way_behind}
 use Rattle.lazy_dfa.proofs.accel.accel_rounds.circle.Goals as goal
 
 pub round-init : goal.round-init
@@ -12,36 +12,33 @@ round-init g c = record {
       (c.args.from - c.args.from) c.requires.own c.requires.row (omega arith);
 }
 
-pub returns-then-is_used_up-clause-goes : goal.returns-then-is_used_up-clause-goes
-returns-then-is_used_up-clause-goes g c = way_over c.args.dfa.now c.args.cache.now c.args.haystack.now c.is_made.ensures c.requires.own
+pub returns-then-is_used_up : goal.returns-then-is_used_up
+returns-then-is_used_up g c = skips_over c.args.dfa.now c.args.cache.now c.args.haystack.now c.is_made.ensures c.requires.own
     (λ i. omega (arith, c.type_inv.haystack i)) c.requires.is_forward
-    c.args.from c.args.id c.round.at c.args.id c.requires.row c.requires.row c.requires.untagged c.round.invariant.past
-    c.round.invariant.goes c.find_by-to.result c.find_by-to.ensures.low
-    (omega (arith, c.find_by-to.ensures.high, c.requires.within))
+    c.args.id c.args.from c.round.at c.find_by-to.result c.args.end c.requires.row c.requires.untagged c.round.invariant
+    c.find_by-to.ensures.low c.find_by-to.ensures.high c.requires.within
     (λ k low high. c.requires.stays (get_or c.args.haystack.now k 0) (omega (arith, c.type_inv.haystack k)) (
     c.find_by-to.ensures.passed k low high
     ))
 
 pub round-preserved : goal.round-preserved
 round-preserved g c =
-    let over = way_over c.args.dfa.now c.args.cache.now c.args.haystack.now c.is_made.ensures c.requires.own
+    let over = skips_over c.args.dfa.now c.args.cache.now c.args.haystack.now c.is_made.ensures c.requires.own
     (λ i. omega (arith, c.type_inv.haystack i)) c.requires.is_forward
-    c.args.from c.args.id c.round.at c.args.id c.requires.row c.requires.row c.requires.untagged c.round.invariant.past
-    c.round.invariant.goes c.find_by-to.result c.find_by-to.ensures.low
-    (omega (arith, c.find_by-to.ensures.high, c.requires.within))
+    c.args.id c.args.from c.round.at c.find_by-to.result c.args.end c.requires.row c.requires.untagged c.round.invariant
+    c.find_by-to.ensures.low c.find_by-to.ensures.high c.requires.within
     (λ k low high. c.requires.stays (get_or c.args.haystack.now k 0) (omega (arith, c.type_inv.haystack k)) (
     c.find_by-to.ensures.passed k low high
     )) in
-    let past : c.args.from ≤ c.find_by-to.result = omega (arith, c.round.invariant.past, c.find_by-to.ensures.low) in
     record {
-      past = omega (arith, past);
+      past = omega (arith, over.past);
       within = c.if-not-comes_back.ensures.within refl;
       goes = way_behind c.args.dfa.now c.args.cache.now c.args.haystack.now c.is_made.ensures c.requires.own (λ i. omega (
         arith,
         c.type_inv.haystack i,
       )) c.requires.is_forward
-          c.args.from c.args.id c.find_by-to.result c.args.id (c.find_by-to.result + 2) c.args.id c.requires.row c.requires.row past
-          (omega arith) over
+          c.args.from c.args.id c.find_by-to.result c.args.id (c.find_by-to.result + 2) c.args.id c.requires.row c.requires.row over.past
+          (omega arith) over.goes
           (λ m n best. subst (λ (k : ℕ). GoesTo c.args.dfa.now c.args.haystack.now
           (point c.args.cache.now m n c.find_by-to.result c.args.id best)
           (point c.args.cache.now m n (c.find_by-to.result + 2) c.args.id best) k) (omega arith)

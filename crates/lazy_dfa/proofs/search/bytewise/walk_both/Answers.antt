@@ -2,31 +2,35 @@ use Rattle.std.proofs.Common.{◌∙◌, sym, ◌+◌, ◌<◌, get_or, arith}
 use Rattle.lazy_dfa.specs.Ids.{tag}
 use Rattle.lazy_dfa.proofs.CacheChanges.ChangeLemmas.{plain_place}
 use Rattle.lazy_dfa.proofs.CacheChanges.IsCacheLemmas.{lt_of}
-use Rattle.lazy_dfa.proofs.PassedBytes.SkipLemmas.{row_next, stands, way_next}
+use Rattle.lazy_dfa.proofs.PassedBytes.SkipLemmas.{counts_none, counts_byte}
 use Rattle.lazy_dfa.proofs.search.bytewise.walk_both.Goals as goal
 
 pub both-init : goal.both-init
 both-init c = record {
-  row = c.requires.row;
-  untagged = c.requires.untagged;
-  other_row = c.requires.second_row;
-  other_untagged = c.requires.second_untagged;
   most = omega arith;
-  goes = stands c.args.dfa.now c.args.cache.now c.args.haystack.now c.requires.own c.args.from c.args.first c.requires.row;
-  other_goes = stands c.args.dfa.now c.args.cache.now c.args.haystack.now c.requires.own c.args.further c.args.second
-      c.requires.second_row;
+  first = counts_none c.args.dfa.now c.args.cache.now c.args.haystack.now c.is_made.ensures c.requires.own (λ i. omega (
+    arith,
+    c.type_inv.haystack i,
+  )) c.requires.is_forward
+      (record { at = c.args.from; id = c.args.first }) c.args.count c.requires.row c.requires.untagged;
+  second = counts_none c.args.dfa.now c.args.cache.now c.args.haystack.now c.is_made.ensures c.requires.own (λ i. omega (
+    arith,
+    c.type_inv.haystack i,
+  )) c.requires.is_forward
+      (record { at = c.args.further; id = c.args.second }) c.args.count c.requires.second_row c.requires.second_untagged;
 }
 
 pub cell_of_untagged-next-requires : goal.cell_of_untagged-next-requires
 cell_of_untagged-next-requires c = plain_place c.args.dfa.now c.args.cache.now c.both.one c.class.result
     (get_or c.args.haystack.now (c.args.from + c.both.read) 0) c.is_made.ensures c.requires.own
-    (omega (arith, c.type_inv.haystack (c.args.from + c.both.read))) c.class.ensures c.both.invariant.untagged c.both.invariant.row
+    (omega (arith, c.type_inv.haystack (c.args.from + c.both.read))) c.class.ensures c.both.invariant.first.untagged
+    c.both.invariant.first.row
 
 pub cell_of_untagged-other_next-requires : goal.cell_of_untagged-other_next-requires
 cell_of_untagged-other_next-requires c = plain_place c.args.dfa.now c.args.cache.now c.both.other c.class-in-both.result
     (get_or c.args.haystack.now (c.args.further + c.both.read) 0) c.is_made.ensures c.requires.own
-    (omega (arith, c.type_inv.haystack (c.args.further + c.both.read))) c.class-in-both.ensures c.both.invariant.other_untagged
-    c.both.invariant.other_row
+    (omega (arith, c.type_inv.haystack (c.args.further + c.both.read))) c.class-in-both.ensures c.both.invariant.second.untagged
+    c.both.invariant.second.row
 
 pub both-preserved : goal.both-preserved
 both-preserved c =
@@ -35,39 +39,21 @@ both-preserved c =
     let other_plain : c.cell_of_untagged-other_next.result < tag =
     lt_of 0x800_0000 c.cell_of_untagged-other_next.result (sym c.is_tagged-else-is_tagged.ensures ∙ c.if-is_tagged-2.false) in
     record {
-      row = row_next c.args.dfa.now c.args.cache.now c.args.haystack.now c.is_made.ensures c.requires.own (λ i. omega (
-        arith,
-        c.type_inv.haystack i,
-      )) c.requires.is_forward
-          c.args.from c.args.first c.both.read c.both.one c.requires.row c.both.invariant.row c.both.invariant.untagged
-          (omega (arith, c.both-test.true, c.requires.fits)) c.both.invariant.goes
-          c.cell_of_untagged-next.result c.class.result c.class.ensures c.cell_of_untagged-next.ensures plain;
-      untagged = plain;
-      other_row = row_next c.args.dfa.now c.args.cache.now c.args.haystack.now c.is_made.ensures c.requires.own (λ i. omega (
-        arith,
-        c.type_inv.haystack i,
-      )) c.requires.is_forward
-          c.args.further c.args.second c.both.read c.both.other c.requires.second_row c.both.invariant.other_row
-          c.both.invariant.other_untagged
-          (omega (arith, c.both-test.true, c.requires.within)) c.both.invariant.other_goes
-          c.cell_of_untagged-other_next.result c.class-in-both.result c.class-in-both.ensures c.cell_of_untagged-other_next.ensures
-          other_plain;
-      other_untagged = other_plain;
       most = omega (arith, c.both-test.true);
-      goes = way_next c.args.dfa.now c.args.cache.now c.args.haystack.now c.is_made.ensures c.requires.own (λ i. omega (
+      first = counts_byte c.args.dfa.now c.args.cache.now c.args.haystack.now c.is_made.ensures c.requires.own (λ i. omega (
         arith,
         c.type_inv.haystack i,
       )) c.requires.is_forward
-          c.args.from c.args.first c.both.read c.both.one c.requires.row c.both.invariant.row c.both.invariant.untagged
-          (omega (arith, c.both-test.true, c.requires.fits)) c.both.invariant.goes
+          (record { at = c.args.from; id = c.args.first }) c.both.read c.both.one c.args.count c.requires.row c.both.invariant.first
+          (omega (arith, c.both-test.true)) c.requires.fits
           c.cell_of_untagged-next.result c.class.result c.class.ensures c.cell_of_untagged-next.ensures plain;
-      other_goes = way_next c.args.dfa.now c.args.cache.now c.args.haystack.now c.is_made.ensures c.requires.own (λ i. omega (
+      second = counts_byte c.args.dfa.now c.args.cache.now c.args.haystack.now c.is_made.ensures c.requires.own (λ i. omega (
         arith,
         c.type_inv.haystack i,
       )) c.requires.is_forward
-          c.args.further c.args.second c.both.read c.both.other c.requires.second_row c.both.invariant.other_row
-          c.both.invariant.other_untagged
-          (omega (arith, c.both-test.true, c.requires.within)) c.both.invariant.other_goes
+          (record { at = c.args.further; id = c.args.second }) c.both.read c.both.other c.args.count c.requires.second_row
+          c.both.invariant.second
+          (omega (arith, c.both-test.true)) c.requires.within
           c.cell_of_untagged-other_next.result c.class-in-both.result c.class-in-both.ensures c.cell_of_untagged-other_next.ensures
           other_plain;
     }

@@ -1,18 +1,9 @@
-use Rattle.std.proofs.Common.{◌-◌, ◌<◌, ◌≤◌, ℕ, Option}
-use Rattle.lazy_dfa.specs.Caches.{IsRow}
-use Rattle.lazy_dfa.specs.Ids.{tag}
-use Rattle.lazy_dfa.specs.Points.{GoesTo, point}
+use Rattle.std.proofs.Common.{◌-◌}
+use Rattle.lazy_dfa.specs.Stretches.{MovesTo}
 use Rattle.lazy_dfa.proofs.search.bytewise.walk_forward.Given as goal
 
 abbrev pub invariant-loop-at : goal.invariant-loop-at
-invariant-loop-at l = record {
-  row : IsRow l.cache l.sid;
-  untagged : l.sid < tag;
-  past : l.from ≤ l.at;
-  within : l.at ≤ l.limit;
-  goes : (m n : ℕ) (best : Option (ℕ × ℕ)) → GoesTo l.dfa l.haystack (point l.cache m n l.from l.fn.id best)
-      (point l.cache m n l.at l.sid best) (l.at - l.from);
-}
+invariant-loop-at l = MovesTo l.dfa l.cache l.haystack (record { at = l.from; id = l.fn.id }) l.limit (record { at = l.at; id = l.sid })
 
 abbrev pub decreases-loop-at : goal.decreases-loop-at
 decreases-loop-at l = l.limit - l.at

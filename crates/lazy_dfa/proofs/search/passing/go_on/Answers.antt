@@ -4,28 +4,45 @@ use Rattle.lazy_dfa.specs.HalfSearches.{first_offset}
 use Rattle.lazy_dfa.specs.SearchAnswers.{pair_of}
 use Rattle.lazy_dfa.specs.ScanOffsets.{first_index, left_at, GoesBetween, TurnsInto}
 use Rattle.lazy_dfa.proofs.CacheChanges.LinkedLemmas.{AreBytes}
+use Rattle.lazy_dfa.proofs.Courses.LingerLemmas.{between_both}
 use Rattle.lazy_dfa.proofs.Courses.PassLoopLemmas.{began_runs, under_first, under_on, stand_first, stand_on, goes_further, within_next}
 use Rattle.lazy_dfa.proofs.Courses.PassLoopLemmas.{told_nothing, ends_found, ends_error}
+use Rattle.lazy_dfa.proofs.search.passing.go_on.Goals.{After-linger-position}
 use Rattle.lazy_dfa.proofs.search.passing.go_on.Goals as goal
 
+-- the known steps from the first position on
+known : (g : Rattle.lazy_dfa.proofs.search.passing.go_on.Given.Over) (c : After-linger-position g) → (m n : ℕ) →
+    GoesBetween c.args.dfa.now c.args.input.now.earliest c.args.input.now.haystack
+    (point c.args.cache.now m n c.first_offset.result c.args.id None)
+    (point c.args.cache.now m n c.linger-position.result.at c.linger-position.result.id (pair_of c.linger-position.result.best))
+    (left_at c.args.is_reverse c.args.input.now c.first_offset.result
+    - left_at c.args.is_reverse c.args.input.now c.linger-position.result.at)
+known g c m n = between_both c.args.dfa.now c.args.cache.now c.args.input.now c.args.is_reverse c.first_offset.result
+    c.run-next.result.at c.linger-position.result.at
+    c.args.id c.run-next.result.id c.linger-position.result.id None (pair_of c.run-next.result.best)
+    (pair_of c.linger-position.result.best)
+    c.is_made.ensures (subst AreBytes c.haystack.ensures.value c.see_bytes.ensures) c.requires.own c.requires.row c.run-next.ensures.row
+    c.run-next.ensures.closer c.linger-position.ensures.closer m n
+    (c.run-next.ensures.goes c.args.input.now.earliest m n) (rw c.run-next.ensures.same at (c.linger-position.ensures.goes m n))
+
 pub loop-turned-init : goal.loop-turned-init
-loop-turned-init g c = rw c.run_known-position.ensures.same (record {
+loop-turned-init g c = rw c.run-next.ensures.same (record {
   own = c.requires.own;
-  row = c.run_known-position.ensures.row;
-  within = c.run_known-position.ensures.within;
+  row = rw c.run-next.ensures.same at c.linger-position.ensures.row;
+  within = c.linger-position.ensures.within;
   running = λ e. began_runs c.args.cache.now.progress (first_index c.args.is_reverse c.args.input.now) (ap began (c.requires.running e));
   same = λ e. refl;
   goes = stand_first c.args.dfa.now c.args.input.now c.args.is_reverse c.args.cache.now c.args.work.now.determinized
-      c.args.work.now.inserted c.args.id c.run_known-position.result.at c.run_known-position.result.id
-      (pair_of c.run_known-position.result.best)
+      c.args.work.now.inserted c.args.id c.linger-position.result.at c.linger-position.result.id
+      (pair_of c.linger-position.result.best)
       (subst (λ (x : ℕ). GoesBetween c.args.dfa.now c.args.input.now.earliest c.args.input.now.haystack
       (point c.args.cache.now c.args.work.now.determinized c.args.work.now.inserted x c.args.id None)
-      (point c.args.cache.now c.args.work.now.determinized c.args.work.now.inserted c.run_known-position.result.at
-      c.run_known-position.result.id (pair_of c.run_known-position.result.best))
-      (left_at c.args.is_reverse c.args.input.now x - left_at c.args.is_reverse c.args.input.now c.run_known-position.result.at))
+      (point c.args.cache.now c.args.work.now.determinized c.args.work.now.inserted c.linger-position.result.at
+      c.linger-position.result.id (pair_of c.linger-position.result.best))
+      (left_at c.args.is_reverse c.args.input.now x - left_at c.args.is_reverse c.args.input.now c.linger-position.result.at))
       c.first_offset.ensures
-      (c.run_known-position.ensures.goes c.args.work.now.determinized c.args.work.now.inserted)) c.run_known-position.ensures.within;
-  under = under_first c.args.is_reverse c.args.input.now c.args.cache.now c.run_known-position.result.at c.requires.running;
+      (known g c c.args.work.now.determinized c.args.work.now.inserted)) c.linger-position.ensures.within;
+  under = under_first c.args.is_reverse c.args.input.now c.args.cache.now c.linger-position.result.at c.requires.running;
 })
 
 pub returns-in-Err-clause-runs : goal.returns-in-Err-clause-runs

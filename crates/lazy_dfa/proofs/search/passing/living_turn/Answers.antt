@@ -15,7 +15,7 @@ returns-in-Err-clause-turn g c = turn_refused c.args.dfa.now c.args.input.now c.
     c.search_update.new.self c.make_turn.new.cache c.args.work.now.determinized c.args.work.now.inserted
     c.make_turn.new.work.determinized c.make_turn.new.work.inserted c.args.position.at c.args.position.id (pair_of c.args.position.best)
     (Some (get_or c.haystack-haystack.result.now c.index_at-index.result 0))
-    c.get_earliest-earliest.result c.index_at-index.result c.in-Err.e c.rejection.result
+    c.get_earliest.result c.index_at-index.result c.in-Err.e c.rejection.result
     (moved_is c.args.cache.now c.search_update.new.self c.index_at-index.result c.search_update.ensures)
     (byte_unit c.args.is_reverse c.args.dfa.now.nfa.automaton.reverse c.args.input.now c.haystack-haystack.result.now c.args.position.at
     c.index_at-index.result c.requires.is_reverse c.haystack-haystack.ensures.value c.index_at-index.ensures c.requires.within
@@ -39,7 +39,7 @@ search_finish-requires g c = some_behind c.args.dfa.now c.args.input.now c.args.
     c.search_update.new.self c.make_turn.new.cache c.args.work.now.determinized c.args.work.now.inserted
     c.make_turn.new.work.determinized c.make_turn.new.work.inserted c.args.position.at c.args.position.id (pair_of c.args.position.best)
     (Some (get_or c.haystack-haystack.result.now c.index_at-index.result 0))
-    c.in-Ok.seen.id (pair_of c.in-Ok.seen.best) c.get_earliest-earliest.result c.in-Ok.seen.turn c.get_earliest-earliest.ensures
+    c.in-Ok.seen.id (pair_of c.in-Ok.seen.best) c.get_earliest.result c.in-Ok.seen.turn c.get_earliest.ensures
     (c.in-Ok.ensures.turn c.args.input.now.haystack (byte_unit c.args.is_reverse c.args.dfa.now.nfa.automaton.reverse c.args.input.now
     c.haystack-haystack.result.now c.args.position.at c.index_at-index.result c.requires.is_reverse c.haystack-haystack.ensures.value
     c.index_at-index.ensures c.requires.within c.requires.left c.haystack-haystack.ensures.within.0))
@@ -50,7 +50,7 @@ search_finish-requires-in-Quits g c = some_kept c.args.dfa.now c.args.input.now 
     c.search_update.new.self c.make_turn.new.cache c.args.work.now.determinized c.args.work.now.inserted
     c.make_turn.new.work.determinized c.make_turn.new.work.inserted c.args.position.at c.args.position.id (pair_of c.args.position.best)
     (Some (get_or c.haystack-haystack.result.now c.index_at-index.result 0))
-    c.in-Ok.seen.id (pair_of c.in-Ok.seen.best) c.get_earliest-earliest.result c.in-Ok.seen.turn c.get_earliest-earliest.ensures
+    c.in-Ok.seen.id (pair_of c.in-Ok.seen.best) c.get_earliest.result c.in-Ok.seen.turn c.get_earliest.ensures
     (c.in-Ok.ensures.turn c.args.input.now.haystack (byte_unit c.args.is_reverse c.args.dfa.now.nfa.automaton.reverse c.args.input.now
     c.haystack-haystack.result.now c.args.position.at c.index_at-index.result c.requires.is_reverse c.haystack-haystack.ensures.value
     c.index_at-index.ensures c.requires.within c.requires.left c.haystack-haystack.ensures.within.0))
@@ -61,7 +61,7 @@ returns-in-GoesOn-clause-turn g c = byte_goes c.args.dfa.now c.args.input.now c.
     c.search_update.new.self c.make_turn.new.cache c.args.work.now.determinized c.args.work.now.inserted
     c.make_turn.new.work.determinized c.make_turn.new.work.inserted c.args.position.at c.args.position.id (pair_of c.args.position.best)
     (Some (get_or c.haystack-haystack.result.now c.index_at-index.result 0))
-    c.in-Ok.seen.id (pair_of c.in-Ok.seen.best) c.get_earliest-earliest.result c.in-Ok.seen.turn c.get_earliest-earliest.ensures
+    c.in-Ok.seen.id (pair_of c.in-Ok.seen.best) c.get_earliest.result c.in-Ok.seen.turn c.get_earliest.ensures
     (c.in-Ok.ensures.turn c.args.input.now.haystack (byte_unit c.args.is_reverse c.args.dfa.now.nfa.automaton.reverse c.args.input.now
     c.haystack-haystack.result.now c.args.position.at c.index_at-index.result c.requires.is_reverse c.haystack-haystack.ensures.value
     c.index_at-index.ensures c.requires.within c.requires.left c.haystack-haystack.ensures.within.0))
@@ -80,7 +80,7 @@ returns-in-Ends-clause-turn g c = byte_ends c.args.dfa.now c.args.input.now c.ar
     c.search_update.new.self c.make_turn.new.cache c.args.work.now.determinized c.args.work.now.inserted
     c.make_turn.new.work.determinized c.make_turn.new.work.inserted c.args.position.at c.args.position.id (pair_of c.args.position.best)
     (Some (get_or c.haystack-haystack.result.now c.index_at-index.result 0))
-    c.in-Ok.seen.id (pair_of c.in-Ok.seen.best) c.get_earliest-earliest.result c.in-Ok.seen.turn c.get_earliest-earliest.ensures
+    c.in-Ok.seen.id (pair_of c.in-Ok.seen.best) c.get_earliest.result c.in-Ok.seen.turn c.get_earliest.ensures
     (c.in-Ok.ensures.turn c.args.input.now.haystack (byte_unit c.args.is_reverse c.args.dfa.now.nfa.automaton.reverse c.args.input.now
     c.haystack-haystack.result.now c.args.position.at c.index_at-index.result c.requires.is_reverse c.haystack-haystack.ensures.value
     c.index_at-index.ensures c.requires.within c.requires.left c.haystack-haystack.ensures.within.0))
@@ -101,7 +101,7 @@ returns-in-Quits-clause-turn g c = turn_quits c.args.dfa.now c.args.input.now c.
     c.search_update.new.self c.make_turn.new.cache c.args.work.now.determinized c.args.work.now.inserted
     c.make_turn.new.work.determinized c.make_turn.new.work.inserted c.args.position.at c.args.position.id (pair_of c.args.position.best)
     (Some (get_or c.haystack-haystack.result.now c.index_at-index.result 0))
-    c.in-Ok.seen.id (pair_of c.in-Ok.seen.best) c.get_earliest-earliest.result c.in-Ok.seen.turn c.get_earliest-earliest.ensures
+    c.in-Ok.seen.id (pair_of c.in-Ok.seen.best) c.get_earliest.result c.in-Ok.seen.turn c.get_earliest.ensures
     (c.in-Ok.ensures.turn c.args.input.now.haystack (byte_unit c.args.is_reverse c.args.dfa.now.nfa.automaton.reverse c.args.input.now
     c.haystack-haystack.result.now c.args.position.at c.index_at-index.result c.requires.is_reverse c.haystack-haystack.ensures.value
     c.index_at-index.ensures c.requires.within c.requires.left c.haystack-haystack.ensures.within.0))

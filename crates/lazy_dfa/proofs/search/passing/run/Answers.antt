@@ -18,4 +18,4 @@ returns-clause-goes c = forward_between c.args.dfa.now c.args.cache.now c.args.i
     c.args.position.at
     c.run_forward-moved.result.at c.args.position.id c.run_forward-moved.result.id c.end.result
     (pair_of c.args.position.best) c.haystack-haystack.ensures.value c.end.ensures.value c.if-is_reverse.false
-    c.run_forward-moved.ensures.past c.run_forward-moved.ensures.within c.run_forward-moved.ensures.goes
+    c.run_forward-moved.ensures.moves.past c.run_forward-moved.ensures.moves.within c.run_forward-moved.ensures.moves.goes

@@ -1,17 +1,11 @@
-use Rattle.std.proofs.Common.{◌-◌, arith}
-use Rattle.lazy_dfa.proofs.Courses.PointLemmas.{runs_none}
-use Rattle.lazy_dfa.proofs.PassedBytes.SkipLemmas.{reads_on}
+use Rattle.std.proofs.Common.{arith}
+use Rattle.lazy_dfa.proofs.PassedBytes.SkipLemmas.{reads_none, reads_on}
 use Rattle.lazy_dfa.proofs.search.runs.read_forward.Goals as goal
 
 pub stretch-init : goal.stretch-init
-stretch-init c = record {
-  row = c.requires.row;
-  untagged = c.requires.untagged;
-  past = omega arith;
-  within = c.requires.fits;
-  goes = runs_none c.args.dfa.now c.args.cache.now c.args.haystack.now c.args.from c.args.id
-      (c.args.from - c.args.from) c.requires.own c.requires.row (omega arith);
-}
+stretch-init c = reads_none c.args.dfa.now c.args.cache.now c.args.haystack.now c.is_made.ensures c.requires.own
+    (λ i. omega (arith, c.type_inv.haystack i)) c.requires.is_forward
+    (record { at = c.args.from; id = c.args.id }) c.args.end c.requires.row c.requires.untagged c.requires.fits
 
 pub returns-then-stretch : goal.returns-then-stretch
 returns-then-stretch c = reads_on c.args.dfa.now c.args.cache.now c.args.haystack.now c.is_made.ensures c.requires.own

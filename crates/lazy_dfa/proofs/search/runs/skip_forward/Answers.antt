@@ -1,70 +1,38 @@
-use Rattle.std.proofs.Common.{refl, subst, ◌∙◌, ◌-◌, ℕ, Option, arith}
-use Rattle.lazy_dfa.specs.Caches.{CacheValue, IsRow}
-use Rattle.lazy_dfa.specs.Points.{GoesTo, point}
-use Rattle.lazy_dfa.proofs.Courses.PointLemmas.{runs_none}
-use Rattle.lazy_dfa.proofs.PassedBytes.SkipLemmas.{way_behind}
+use Rattle.std.proofs.Common.{refl, subst, ◌∙◌, arith}
+use Rattle.lazy_dfa.specs.Caches.{CacheValue}
+use Rattle.lazy_dfa.specs.Stretches.{SkipsTo}
+use Rattle.lazy_dfa.proofs.PassedBytes.SkipLemmas.{reads_none, reads_skip, reads_there}
 use Rattle.lazy_dfa.proofs.search.runs.skip_forward.Goals as goal
 
 pub loop-sid-init : goal.loop-sid-init
 loop-sid-init c = record {
   same = refl;
-  row = c.requires.row;
-  untagged = c.requires.untagged;
-  past = omega arith;
-  within = c.requires.fits;
-  goes = runs_none c.args.dfa.now c.args.cache.now c.args.haystack.now c.args.from c.args.id
-      (c.args.from - c.args.from) c.requires.own c.requires.row (omega arith);
+  moves = reads_none c.args.dfa.now c.args.cache.now c.args.haystack.now c.is_made.ensures c.requires.own
+      (λ i. omega (arith, c.type_inv.haystack i)) c.requires.is_forward
+      (record { at = c.args.from; id = c.args.id }) c.args.end c.requires.row c.requires.untagged c.requires.fits;
 }
 
-pub returns-then-not-walked-clause-goes : goal.returns-then-not-walked-clause-goes
-returns-then-not-walked-clause-goes c = way_behind c.args.dfa.now c.args.cache.now c.args.haystack.now c.is_made.ensures c.requires.own
-    (λ i. omega (arith, c.type_inv.haystack i)) c.requires.is_forward
-    c.args.from c.args.id c.loop-sid.at c.loop-sid.sid c.walk_forward-walked.result.at c.walk_forward-walked.result.id c.requires.row
-    c.loop-sid.invariant.row c.loop-sid.invariant.past c.walk_forward-walked.ensures.past
-    c.loop-sid.invariant.goes
-    (subst (λ (v : CacheValue). (m n : ℕ) (best : Option (ℕ × ℕ)) → GoesTo c.args.dfa.now c.args.haystack.now
-    (point v m n c.loop-sid.at c.loop-sid.sid best)
-    (point v m n c.walk_forward-walked.result.at c.walk_forward-walked.result.id best) (c.walk_forward-walked.result.at - c.loop-sid.at))
-    c.loop-sid.invariant.same c.walk_forward-walked.ensures.goes)
+pub returns-then-not-walked-clause-moves : goal.returns-then-not-walked-clause-moves
+returns-then-not-walked-clause-moves c = reads_there c.args.dfa.now c.args.cache.now c.args.haystack.now c.is_made.ensures c.requires.own
+    (λ i. omega (arith, c.type_inv.haystack i)) c.requires.is_forward c.loop-sid.cache c.loop-sid.invariant.same
+    (record { at = c.args.from; id = c.args.id }) (record { at = c.loop-sid.at; id = c.loop-sid.sid })
+    (record { at = c.walk_forward-walked.result.at; id = c.walk_forward-walked.result.id }) c.stretch_end-limit.result c.args.end
+    c.requires.row c.loop-sid.invariant.moves c.walk_forward-walked.ensures.moves c.stretch_end-limit.ensures.high
 
 pub loop-sid-preserved : goal.loop-sid-preserved
 loop-sid-preserved c =
-    let walked : (m n : ℕ) (best : Option (ℕ × ℕ)) → GoesTo c.args.dfa.now c.args.haystack.now
-    (point c.args.cache.now m n c.args.from c.args.id best)
-    (point c.args.cache.now m n c.walk_forward-walked.result.at c.walk_forward-walked.result.id best)
-    (c.walk_forward-walked.result.at - c.args.from) =
-    way_behind c.args.dfa.now c.args.cache.now c.args.haystack.now c.is_made.ensures c.requires.own (λ i. omega (
-      arith,
-      c.type_inv.haystack i,
-    )) c.requires.is_forward
-    c.args.from c.args.id c.loop-sid.at c.loop-sid.sid c.walk_forward-walked.result.at c.walk_forward-walked.result.id c.requires.row
-    c.loop-sid.invariant.row c.loop-sid.invariant.past c.walk_forward-walked.ensures.past
-    c.loop-sid.invariant.goes
-    (subst (λ (v : CacheValue). (m n : ℕ) (best : Option (ℕ × ℕ)) → GoesTo c.args.dfa.now c.args.haystack.now
-    (point v m n c.loop-sid.at c.loop-sid.sid best)
-    (point v m n c.walk_forward-walked.result.at c.walk_forward-walked.result.id best) (c.walk_forward-walked.result.at - c.loop-sid.at))
-    c.loop-sid.invariant.same c.walk_forward-walked.ensures.goes) in
-    let row = subst (λ (v : CacheValue). IsRow v c.walk_forward-walked.result.id) c.loop-sid.invariant.same
-    c.walk_forward-walked.ensures.row in
-    let over : (m n : ℕ) (best : Option (ℕ × ℕ)) → GoesTo c.args.dfa.now c.args.haystack.now
-    (point c.args.cache.now m n c.walk_forward-walked.result.at c.walk_forward-walked.result.id best)
-    (point c.args.cache.now m n c.skip_over-at.result c.walk_forward-walked.result.id best)
-    (c.skip_over-at.result - c.walk_forward-walked.result.at) =
-    subst (λ (v : CacheValue). (m n : ℕ) (best : Option (ℕ × ℕ)) → GoesTo c.args.dfa.now c.args.haystack.now
-    (point v m n c.walk_forward-walked.result.at c.walk_forward-walked.result.id best)
-    (point v m n c.skip_over-at.result c.walk_forward-walked.result.id best) (c.skip_over-at.result - c.walk_forward-walked.result.at))
-    c.loop-sid.invariant.same c.skip_over-at.ensures.goes in
+    let walked = reads_there c.args.dfa.now c.args.cache.now c.args.haystack.now c.is_made.ensures c.requires.own
+    (λ i. omega (arith, c.type_inv.haystack i)) c.requires.is_forward c.loop-sid.cache c.loop-sid.invariant.same
+    (record { at = c.args.from; id = c.args.id }) (record { at = c.loop-sid.at; id = c.loop-sid.sid })
+    (record { at = c.walk_forward-walked.result.at; id = c.walk_forward-walked.result.id }) c.stretch_end-limit.result c.args.end
+    c.requires.row c.loop-sid.invariant.moves c.walk_forward-walked.ensures.moves c.stretch_end-limit.ensures.high in
     record {
       same = c.skip_over-at.ensures.same ∙ c.loop-sid.invariant.same;
-      row = row;
-      untagged = c.walk_forward-walked.ensures.untagged;
-      past = omega (arith, c.loop-sid.invariant.past, c.walk_forward-walked.ensures.past, c.skip_over-at.ensures.past);
-      within = c.skip_over-at.ensures.within;
-      goes = way_behind c.args.dfa.now c.args.cache.now c.args.haystack.now c.is_made.ensures c.requires.own (λ i. omega (
-        arith,
-        c.type_inv.haystack i,
-      )) c.requires.is_forward
-          c.args.from c.args.id c.walk_forward-walked.result.at c.walk_forward-walked.result.id c.skip_over-at.result
-          c.walk_forward-walked.result.id c.requires.row row
-          (omega (arith, c.loop-sid.invariant.past, c.walk_forward-walked.ensures.past)) c.skip_over-at.ensures.past walked over;
+      moves = reads_skip c.args.dfa.now c.args.cache.now c.args.haystack.now c.is_made.ensures c.requires.own
+          (λ i. omega (arith, c.type_inv.haystack i)) c.requires.is_forward
+          (record { at = c.args.from; id = c.args.id })
+          (record { at = c.walk_forward-walked.result.at; id = c.walk_forward-walked.result.id }) c.args.end c.skip_over-at.result
+          c.requires.row walked
+          (subst (λ (w : CacheValue). SkipsTo c.args.dfa.now w c.args.haystack.now c.walk_forward-walked.result.id
+          c.walk_forward-walked.result.at c.args.end c.skip_over-at.result) c.loop-sid.invariant.same c.skip_over-at.ensures.skips);
     }

@@ -1,4 +1,4 @@
-use Rattle.std.proofs.Common.{◌≡◌, ◌⊎◌, ◌∙◌, ◌+◌, ◌*◌, ◌<◌, ℕ, true, sym, subst, ap, inl, inr, ⊎_elim, set, length, refl}
+use Rattle.std.proofs.Common.{◌≡◌, ◌⊎◌, ◌∙◌, ◌+◌, ◌*◌, ◌<◌, ℕ, true, sym, subst, ap, inl, inr, ⊎_elim, set, length, refl, rules}
 use Rattle.determinize_core.specs.States.{StateValue}
 use Rattle.lazy_dfa.specs.Caches.{CacheValue, slot_of_start, cleared, needs_clear}
 use Rattle.lazy_dfa.specs.Dfas.{first_state}
@@ -11,110 +11,124 @@ use Rattle.lazy_dfa.proofs.CacheChanges.StartChangeLemmas.{start_remains, start_
 use Rattle.lazy_dfa.proofs.CacheChanges.AddsLemmas.{same_states, start_comes}
 use Rattle.lazy_dfa.proofs.steps.starting.start_in_mode.Goals as goal
 
-pub returns-in-Err-clause-err : goal.returns-in-Err-clause-err
-returns-in-Err-clause-err g c = subst (λ (s : StateValue). IsCause c.args.dfa.now c.args.cache.now s c.in-Err.e) c.in_ok-state.ensures.value
-    (subst (λ (v : CacheValue). IsCause c.args.dfa.now v c.in_ok-state.state c.in-Err.e) c.first_of.ensures.same c.in-Err.ensures.err)
-
-pub returns-in-Ok-clause-own : goal.returns-in-Ok-clause-own
-returns-in-Ok-clause-own g c = started c.args.dfa.now c.place_start.new.cache c.set_start.new.self c.args.mode
-    (c.args.mode * 7 + c.as_usize.result) c.args.name c.in-Ok.id c.args.start c.in_ok-state.state
-    (ap (λ (n : ℕ). c.args.mode * 7 + n) c.as_usize.ensures.number) c.in_ok-state.ensures.value c.in-Ok.ensures.to c.set_start.ensures
-    c.in-Ok.ensures.own
-    (subst (λ (n : ℕ). slot_of_start c.args.mode c.args.start < n) (sym (c.in-Ok.ensures.slots
-    ∙ ap (λ (v : CacheValue). length v.starts) c.first_of.ensures.same)) c.requires.inside) c.requires.named
-
-pub returns-in-Ok-clause-start : goal.returns-in-Ok-clause-start
-returns-in-Ok-clause-start g c = names_started c.args.dfa.now c.place_start.new.cache c.set_start.new.self c.args.mode
-    (c.args.mode * 7 + c.as_usize.result) c.args.name c.in-Ok.id c.args.start c.in_ok-state.state
-    (ap (λ (n : ℕ). c.args.mode * 7 + n) c.as_usize.ensures.number) c.in_ok-state.ensures.value c.in-Ok.ensures.to c.set_start.ensures
-
 -- ---- a start that was known
 
-pub returns-then-not-is_not_known-clause-tag : goal.returns-then-not-is_not_known-clause-tag
-returns-then-not-is_not_known-clause-tag g c alive fresh = absurd (not_fresh c.args.dfa.now c.args.cache.now c.start-known.result
-    (first_state c.args.dfa.now c.args.start c.args.name)
-    (known_begins c.args.dfa.now c.args.cache.now c.args.mode (c.args.mode * 7 + c.as_usize.result) c.args.name c.start-known.result
-    c.args.start c.requires.own
+pub returns-then-not-is_not_known-clause-answer : goal.returns-then-not-is_not_known-clause-answer
+returns-then-not-is_not_known-clause-answer g c = record {
+  start = search rules;
+  noted = search rules;
+  known = search rules;
+  tag = λ alive fresh. absurd (not_fresh c.args.dfa.now c.args.cache.now c.start-known.result
+      (first_state c.args.dfa.now c.args.start c.args.name)
+      (known_begins c.args.dfa.now c.args.cache.now c.args.mode (c.args.mode * 7 + c.as_usize.result) c.args.name c.start-known.result
+      c.args.start c.requires.own
+      (ap (λ (n : ℕ). c.args.mode * 7 + n) c.as_usize.ensures.number) c.requires.inside c.requires.named c.start-known.ensures
+      (sym c.is_not_known.ensures ∙ c.if-not-is_not_known.true))
+      alive fresh);
+  unknown = search rules;
+  ok = search rules;
+  err = search rules;
+}
+
+-- ---- no state is made
+
+pub returns-in_err-state-clause-answer : goal.returns-in_err-state-clause-answer
+returns-in_err-state-clause-answer g c =
+    let empty = unknown_start c.args.dfa.now c.args.cache.now c.args.mode (c.args.mode * 7 + c.as_usize.result) c.args.name
+    c.start-known.result c.args.start c.requires.own
     (ap (λ (n : ℕ). c.args.mode * 7 + n) c.as_usize.ensures.number) c.requires.inside c.requires.named c.start-known.ensures
-    (sym c.is_not_known.ensures ∙ c.if-not-is_not_known.true))
-    alive fresh)
+    (sym c.is_not_known.ensures ∙ c.if-not-is_not_known.false) in
+    record {
+      start = search rules;
+      noted = search rules;
+      known = λ n. absurd (n empty);
+      tag = search rules;
+      unknown = on_err c.from_residual.result empty;
+      ok = search rules;
+      err = search rules;
+    }
 
--- ---- an allocation fails
-
-pub returns-in_err-state-clause-known : goal.returns-in_err-state-clause-known
-returns-in_err-state-clause-known g c n = absurd (n (unknown_start c.args.dfa.now c.args.cache.now c.args.mode
-    (c.args.mode * 7 + c.as_usize.result) c.args.name c.start-known.result c.args.start c.requires.own
+pub returns-in_err-state-clause-made : goal.returns-in_err-state-clause-made
+returns-in_err-state-clause-made g c =
+    let empty = unknown_start c.args.dfa.now c.args.cache.now c.args.mode (c.args.mode * 7 + c.as_usize.result) c.args.name
+    c.start-known.result c.args.start c.requires.own
     (ap (λ (n : ℕ). c.args.mode * 7 + n) c.as_usize.ensures.number) c.requires.inside c.requires.named c.start-known.ensures
-    (sym c.is_not_known.ensures ∙ c.if-not-is_not_known.false)))
+    (sym c.is_not_known.ensures ∙ c.if-not-is_not_known.false) in
+    record {
+      free = λ n. absurd (n empty);
+      determinized = search rules;
+      inserted = search rules;
+    }
 
-pub returns-in_err-state-clause-free : goal.returns-in_err-state-clause-free
-returns-in_err-state-clause-free g c n = absurd (n (unknown_start c.args.dfa.now c.args.cache.now c.args.mode
-    (c.args.mode * 7 + c.as_usize.result) c.args.name c.start-known.result c.args.start c.requires.own
+-- ---- a state that gets no ID
+
+pub returns-in-Err-clause-answer : goal.returns-in-Err-clause-answer
+returns-in-Err-clause-answer g c =
+    let empty = unknown_start c.args.dfa.now c.args.cache.now c.args.mode (c.args.mode * 7 + c.as_usize.result) c.args.name
+    c.start-known.result c.args.start c.requires.own
     (ap (λ (n : ℕ). c.args.mode * 7 + n) c.as_usize.ensures.number) c.requires.inside c.requires.named c.start-known.ensures
-    (sym c.is_not_known.ensures ∙ c.if-not-is_not_known.false)))
+    (sym c.is_not_known.ensures ∙ c.if-not-is_not_known.false) in
+    record {
+      start = search rules;
+      noted = search rules;
+      known = λ n. absurd (n empty);
+      tag = search rules;
+      unknown = empty;
+      ok = search rules;
+      err = subst (λ (s : StateValue). IsCause c.args.dfa.now c.args.cache.now s c.in-Err.e) c.in_ok-state.ensures.value
+          (subst (λ (v : CacheValue). IsCause c.args.dfa.now v c.in_ok-state.state c.in-Err.e) c.first_of.ensures.same c.in-Err.ensures.outcome.err);
+    }
 
-pub returns-in_err-state-clause-unknown : goal.returns-in_err-state-clause-unknown
-returns-in_err-state-clause-unknown g c = on_err c.from_residual.result
-    (unknown_start c.args.dfa.now c.args.cache.now c.args.mode (c.args.mode * 7 + c.as_usize.result) c.args.name c.start-known.result
-    c.args.start c.requires.own
+pub returns-in-Err-clause-changes : goal.returns-in-Err-clause-changes
+returns-in-Err-clause-changes g c =
+    let empty = unknown_start c.args.dfa.now c.args.cache.now c.args.mode (c.args.mode * 7 + c.as_usize.result) c.args.name
+    c.start-known.result c.args.start c.requires.own
     (ap (λ (n : ℕ). c.args.mode * 7 + n) c.as_usize.ensures.number) c.requires.inside c.requires.named c.start-known.ensures
-    (sym c.is_not_known.ensures ∙ c.if-not-is_not_known.false))
+    (sym c.is_not_known.ensures ∙ c.if-not-is_not_known.false) in
+    record {
+      same = λ n. absurd (n empty);
+      kept = unmade_start c.args.dfa.now c.args.cache.now c.place_start.new.cache
+          (subst (λ (v : CacheValue). (c.place_start.new.cache ≡ v) ⊎ (c.place_start.new.cache ≡ cleared v)) c.first_of.ensures.same
+          c.in-Err.ensures.changes.unmade);
+      remains = search rules;
+      cause = ⊎_elim
+          (λ (a : Added c.first_of.new.cache c.place_start.new.cache). inl (grew_added c.args.dfa.now c.args.cache.now c.place_start.new.cache
+          c.is_made.ensures c.requires.own (subst (λ (v : CacheValue). Added v c.place_start.new.cache) c.first_of.ensures.same a)))
+          (λ (n : needs_clear c.args.dfa.now c.first_of.new.cache c.in_ok-state.state ≡ true). inr (
+            empty,
+            subst (λ (s : StateValue). needs_clear c.args.dfa.now c.args.cache.now s ≡ true) c.in_ok-state.ensures.value
+                (subst (λ (v : CacheValue). needs_clear c.args.dfa.now v c.in_ok-state.state ≡ true) c.first_of.ensures.same n),
+          ))
+          c.in-Err.ensures.changes.cause;
+      adds = inr (start_comes c.args.dfa.now c.args.cache.now c.first_of.new.cache c.place_start.new.cache
+          c.place_start.new.cache c.in_ok-state.state (first_state c.args.dfa.now c.args.start c.args.name) c.first_of.ensures.same
+          c.in_ok-state.ensures.value (refl, refl, refl)
+          (λ (a : Added c.args.cache.now c.place_start.new.cache). grew_added c.args.dfa.now c.args.cache.now c.place_start.new.cache
+          c.is_made.ensures c.requires.own a)
+          c.in-Err.ensures.changes.adds);
+      gave_up = search rules;
+    }
 
-pub returns-in-Err-clause-known : goal.returns-in-Err-clause-known
-returns-in-Err-clause-known g c n = absurd (n (unknown_start c.args.dfa.now c.args.cache.now c.args.mode
-    (c.args.mode * 7 + c.as_usize.result) c.args.name c.start-known.result c.args.start c.requires.own
+pub returns-in-Err-clause-made : goal.returns-in-Err-clause-made
+returns-in-Err-clause-made g c =
+    let empty = unknown_start c.args.dfa.now c.args.cache.now c.args.mode (c.args.mode * 7 + c.as_usize.result) c.args.name
+    c.start-known.result c.args.start c.requires.own
     (ap (λ (n : ℕ). c.args.mode * 7 + n) c.as_usize.ensures.number) c.requires.inside c.requires.named c.start-known.ensures
-    (sym c.is_not_known.ensures ∙ c.if-not-is_not_known.false)))
+    (sym c.is_not_known.ensures ∙ c.if-not-is_not_known.false) in
+    record {
+      free = λ n. absurd (n empty);
+      determinized = search rules;
+      inserted = search rules;
+    }
 
-pub returns-in-Err-clause-same : goal.returns-in-Err-clause-same
-returns-in-Err-clause-same g c n = absurd (n (unknown_start c.args.dfa.now c.args.cache.now c.args.mode
-    (c.args.mode * 7 + c.as_usize.result) c.args.name c.start-known.result c.args.start c.requires.own
-    (ap (λ (n : ℕ). c.args.mode * 7 + n) c.as_usize.ensures.number) c.requires.inside c.requires.named c.start-known.ensures
-    (sym c.is_not_known.ensures ∙ c.if-not-is_not_known.false)))
-
-pub returns-in-Err-clause-free : goal.returns-in-Err-clause-free
-returns-in-Err-clause-free g c n = absurd (n (unknown_start c.args.dfa.now c.args.cache.now c.args.mode
-    (c.args.mode * 7 + c.as_usize.result) c.args.name c.start-known.result c.args.start c.requires.own
-    (ap (λ (n : ℕ). c.args.mode * 7 + n) c.as_usize.ensures.number) c.requires.inside c.requires.named c.start-known.ensures
-    (sym c.is_not_known.ensures ∙ c.if-not-is_not_known.false)))
-
-pub returns-in-Err-clause-unknown : goal.returns-in-Err-clause-unknown
-returns-in-Err-clause-unknown g c = unknown_start c.args.dfa.now c.args.cache.now c.args.mode
-    (c.args.mode * 7 + c.as_usize.result) c.args.name c.start-known.result c.args.start c.requires.own
-    (ap (λ (n : ℕ). c.args.mode * 7 + n) c.as_usize.ensures.number) c.requires.inside c.requires.named c.start-known.ensures
-    (sym c.is_not_known.ensures ∙ c.if-not-is_not_known.false)
-
-pub returns-in-Err-clause-kept : goal.returns-in-Err-clause-kept
-returns-in-Err-clause-kept g c = unmade_start c.args.dfa.now c.args.cache.now c.place_start.new.cache
-    (subst (λ (v : CacheValue). (c.place_start.new.cache ≡ v) ⊎ (c.place_start.new.cache ≡ cleared v)) c.first_of.ensures.same
-    c.in-Err.ensures.unmade)
-
--- ---- a start that is made
-
-pub returns-in-Ok-clause-known : goal.returns-in-Ok-clause-known
-returns-in-Ok-clause-known g c n = absurd (n (unknown_start c.args.dfa.now c.args.cache.now c.args.mode
-    (c.args.mode * 7 + c.as_usize.result) c.args.name c.start-known.result c.args.start c.requires.own
-    (ap (λ (n : ℕ). c.args.mode * 7 + n) c.as_usize.ensures.number) c.requires.inside c.requires.named c.start-known.ensures
-    (sym c.is_not_known.ensures ∙ c.if-not-is_not_known.false)))
-
-pub returns-in-Ok-clause-same : goal.returns-in-Ok-clause-same
-returns-in-Ok-clause-same g c n = absurd (n (unknown_start c.args.dfa.now c.args.cache.now c.args.mode
-    (c.args.mode * 7 + c.as_usize.result) c.args.name c.start-known.result c.args.start c.requires.own
-    (ap (λ (n : ℕ). c.args.mode * 7 + n) c.as_usize.ensures.number) c.requires.inside c.requires.named c.start-known.ensures
-    (sym c.is_not_known.ensures ∙ c.if-not-is_not_known.false)))
-
-pub returns-in-Ok-clause-free : goal.returns-in-Ok-clause-free
-returns-in-Ok-clause-free g c n = absurd (n (unknown_start c.args.dfa.now c.args.cache.now c.args.mode
-    (c.args.mode * 7 + c.as_usize.result) c.args.name c.start-known.result c.args.start c.requires.own
-    (ap (λ (n : ℕ). c.args.mode * 7 + n) c.as_usize.ensures.number) c.requires.inside c.requires.named c.start-known.ensures
-    (sym c.is_not_known.ensures ∙ c.if-not-is_not_known.false)))
+-- ---- a state that gets an ID
 
 placed : (g : Rattle.lazy_dfa.proofs.steps.starting.start_in_mode.Given.Over) (c : goal.After-set_start g) →
     GivesStart c.args.dfa.now c.args.cache.now c.place_start.new.cache (first_state c.args.dfa.now c.args.start c.args.name) c.in-Ok.id
 placed g c = subst (λ (w : CacheValue). GivesStart c.args.dfa.now w c.place_start.new.cache
     (first_state c.args.dfa.now c.args.start c.args.name) c.in-Ok.id) c.first_of.ensures.same
     (subst (λ (t : StateValue). GivesStart c.args.dfa.now c.first_of.new.cache c.place_start.new.cache t c.in-Ok.id)
-    c.in_ok-state.ensures.value c.in-Ok.ensures.made)
+    c.in_ok-state.ensures.value c.in-Ok.ensures.start.made)
 
 noted_at : (g : Rattle.lazy_dfa.proofs.steps.starting.start_in_mode.Given.Over) (c : goal.After-set_start g) →
     c.set_start.new.self ≡ record c.place_start.new.cache {
@@ -126,88 +140,77 @@ noted_at g c = c.set_start.ensures ∙ ap (λ (n : ℕ). record c.place_start.ne
       set c.place_start.new.cache.starts (c.args.mode * 7 + n) c.in-Ok.id;
 }) c.as_usize.ensures.number
 
-pub returns-in-Ok-clause-kept : goal.returns-in-Ok-clause-kept
-returns-in-Ok-clause-kept g c = start_kept c.args.dfa.now c.args.cache.now c.place_start.new.cache c.set_start.new.self
-    (slot_of_start c.args.mode c.args.start) c.in-Ok.id (first_state c.args.dfa.now c.args.start c.args.name)
-    c.is_made.ensures c.requires.own
-    (unknown_start c.args.dfa.now c.args.cache.now c.args.mode (c.args.mode * 7 + c.as_usize.result) c.args.name c.start-known.result
-    c.args.start c.requires.own
+pub returns-in-Ok-clause-own : goal.returns-in-Ok-clause-own
+returns-in-Ok-clause-own g c = started c.args.dfa.now c.place_start.new.cache c.set_start.new.self c.args.mode
+    (c.args.mode * 7 + c.as_usize.result) c.args.name c.in-Ok.id c.args.start c.in_ok-state.state
+    (ap (λ (n : ℕ). c.args.mode * 7 + n) c.as_usize.ensures.number) c.in_ok-state.ensures.value c.in-Ok.ensures.start.to c.set_start.ensures
+    c.in-Ok.ensures.own
+    (subst (λ (n : ℕ). slot_of_start c.args.mode c.args.start < n) (sym (c.in-Ok.ensures.changes.slots
+    ∙ ap (λ (v : CacheValue). length v.starts) c.first_of.ensures.same)) c.requires.inside) c.requires.named
+
+pub returns-in-Ok-clause-answer : goal.returns-in-Ok-clause-answer
+returns-in-Ok-clause-answer g c =
+    let empty = unknown_start c.args.dfa.now c.args.cache.now c.args.mode (c.args.mode * 7 + c.as_usize.result) c.args.name
+    c.start-known.result c.args.start c.requires.own
     (ap (λ (n : ℕ). c.args.mode * 7 + n) c.as_usize.ensures.number) c.requires.inside c.requires.named c.start-known.ensures
-    (sym c.is_not_known.ensures ∙ c.if-not-is_not_known.false))
-    (placed g c) (noted_at g c)
+    (sym c.is_not_known.ensures ∙ c.if-not-is_not_known.false) in
+    record {
+      start = names_started c.args.dfa.now c.place_start.new.cache c.set_start.new.self c.args.mode
+          (c.args.mode * 7 + c.as_usize.result) c.args.name c.in-Ok.id c.args.start c.in_ok-state.state
+          (ap (λ (n : ℕ). c.args.mode * 7 + n) c.as_usize.ensures.number) c.in_ok-state.ensures.value c.in-Ok.ensures.start.to c.set_start.ensures;
+      noted = search rules;
+      known = λ n. absurd (n empty);
+      tag = start_tags c.args.dfa.now c.args.cache.now c.place_start.new.cache c.in-Ok.id
+          (first_state c.args.dfa.now c.args.start c.args.name) c.in-Ok.ensures.own.shape.positive (placed g c);
+      unknown = search rules;
+      ok = search rules;
+      err = search rules;
+    }
 
-pub returns-in-Ok-clause-remains : goal.returns-in-Ok-clause-remains
-returns-in-Ok-clause-remains g c = start_remains c.args.dfa.now c.args.cache.now c.place_start.new.cache c.set_start.new.self
-    (slot_of_start c.args.mode c.args.start) c.in-Ok.id (first_state c.args.dfa.now c.args.start c.args.name)
-    c.is_made.ensures c.requires.own
-    (unknown_start c.args.dfa.now c.args.cache.now c.args.mode (c.args.mode * 7 + c.as_usize.result) c.args.name c.start-known.result
-    c.args.start c.requires.own
+pub returns-in-Ok-clause-changes : goal.returns-in-Ok-clause-changes
+returns-in-Ok-clause-changes g c =
+    let empty = unknown_start c.args.dfa.now c.args.cache.now c.args.mode (c.args.mode * 7 + c.as_usize.result) c.args.name
+    c.start-known.result c.args.start c.requires.own
     (ap (λ (n : ℕ). c.args.mode * 7 + n) c.as_usize.ensures.number) c.requires.inside c.requires.named c.start-known.ensures
-    (sym c.is_not_known.ensures ∙ c.if-not-is_not_known.false))
-    (placed g c) (noted_at g c)
+    (sym c.is_not_known.ensures ∙ c.if-not-is_not_known.false) in
+    record {
+      same = λ n. absurd (n empty);
+      kept = start_kept c.args.dfa.now c.args.cache.now c.place_start.new.cache c.set_start.new.self
+          (slot_of_start c.args.mode c.args.start) c.in-Ok.id (first_state c.args.dfa.now c.args.start c.args.name)
+          c.is_made.ensures c.requires.own empty (placed g c) (noted_at g c);
+      remains = start_remains c.args.dfa.now c.args.cache.now c.place_start.new.cache c.set_start.new.self
+          (slot_of_start c.args.mode c.args.start) c.in-Ok.id (first_state c.args.dfa.now c.args.start c.args.name)
+          c.is_made.ensures c.requires.own empty (placed g c) (noted_at g c);
+      cause = ⊎_elim
+          (λ (a : Added c.first_of.new.cache c.place_start.new.cache). inl (
+          grew_start c.args.dfa.now c.args.cache.now c.place_start.new.cache c.set_start.new.self
+          (slot_of_start c.args.mode c.args.start) c.in-Ok.id (first_state c.args.dfa.now c.args.start c.args.name)
+          c.is_made.ensures c.requires.own empty (placed g c) (noted_at g c) (subst (λ (v : CacheValue). Added v c.place_start.new.cache) c.first_of.ensures.same a)
+          ))
+          (λ (n : needs_clear c.args.dfa.now c.first_of.new.cache c.in_ok-state.state ≡ true). inr (
+            empty,
+            subst (λ (s : StateValue). needs_clear c.args.dfa.now c.args.cache.now s ≡ true) c.in_ok-state.ensures.value
+                (subst (λ (v : CacheValue). needs_clear c.args.dfa.now v c.in_ok-state.state ≡ true) c.first_of.ensures.same n),
+          ))
+          c.in-Ok.ensures.changes.cause;
+      adds = inr (start_comes c.args.dfa.now c.args.cache.now c.first_of.new.cache c.place_start.new.cache
+          c.set_start.new.self c.in_ok-state.state (first_state c.args.dfa.now c.args.start c.args.name) c.first_of.ensures.same
+          c.in_ok-state.ensures.value (same_states _ c.set_start.new.self c.set_start.ensures)
+          (grew_start c.args.dfa.now c.args.cache.now c.place_start.new.cache c.set_start.new.self
+          (slot_of_start c.args.mode c.args.start) c.in-Ok.id (first_state c.args.dfa.now c.args.start c.args.name)
+          c.is_made.ensures c.requires.own empty (placed g c) (noted_at g c))
+          c.in-Ok.ensures.changes.adds);
+      gave_up = search rules;
+    }
 
-pub returns-in-Ok-clause-tag : goal.returns-in-Ok-clause-tag
-returns-in-Ok-clause-tag g c = start_tags c.args.dfa.now c.args.cache.now c.place_start.new.cache c.in-Ok.id
-    (first_state c.args.dfa.now c.args.start c.args.name) c.in-Ok.ensures.own.shape.positive (placed g c)
-
--- ---- a clear only if the start needs one
-
-pub returns-in-Err-clause-cause : goal.returns-in-Err-clause-cause
-returns-in-Err-clause-cause g c = ⊎_elim
-    (λ (a : Added c.first_of.new.cache c.place_start.new.cache). inl (grew_added c.args.dfa.now c.args.cache.now c.place_start.new.cache
-    c.is_made.ensures c.requires.own (subst (λ (v : CacheValue). Added v c.place_start.new.cache) c.first_of.ensures.same a)))
-    (λ (n : needs_clear c.args.dfa.now c.first_of.new.cache c.in_ok-state.state ≡ true). inr (
-      (unknown_start c.args.dfa.now c.args.cache.now c.args.mode (c.args.mode * 7 + c.as_usize.result) c.args.name c.start-known.result
-          c.args.start c.requires.own
-          (ap (λ (n : ℕ). c.args.mode * 7 + n) c.as_usize.ensures.number) c.requires.inside c.requires.named c.start-known.ensures
-          (sym c.is_not_known.ensures ∙ c.if-not-is_not_known.false)),
-      subst (λ (s : StateValue). needs_clear c.args.dfa.now c.args.cache.now s ≡ true) c.in_ok-state.ensures.value
-          (subst (λ (v : CacheValue). needs_clear c.args.dfa.now v c.in_ok-state.state ≡ true) c.first_of.ensures.same n),
-    ))
-    c.in-Err.ensures.cause
-
-pub returns-in-Ok-clause-cause : goal.returns-in-Ok-clause-cause
-returns-in-Ok-clause-cause g c = ⊎_elim
-    (λ (a : Added c.first_of.new.cache c.place_start.new.cache). inl (
-    grew_start c.args.dfa.now c.args.cache.now c.place_start.new.cache c.set_start.new.self
-    (slot_of_start c.args.mode c.args.start) c.in-Ok.id (first_state c.args.dfa.now c.args.start c.args.name)
-    c.is_made.ensures c.requires.own
-    (unknown_start c.args.dfa.now c.args.cache.now c.args.mode (c.args.mode * 7 + c.as_usize.result) c.args.name c.start-known.result
-    c.args.start c.requires.own
+pub returns-in-Ok-clause-made : goal.returns-in-Ok-clause-made
+returns-in-Ok-clause-made g c =
+    let empty = unknown_start c.args.dfa.now c.args.cache.now c.args.mode (c.args.mode * 7 + c.as_usize.result) c.args.name
+    c.start-known.result c.args.start c.requires.own
     (ap (λ (n : ℕ). c.args.mode * 7 + n) c.as_usize.ensures.number) c.requires.inside c.requires.named c.start-known.ensures
-    (sym c.is_not_known.ensures ∙ c.if-not-is_not_known.false))
-    (placed g c) (noted_at g c) (subst (λ (v : CacheValue). Added v c.place_start.new.cache) c.first_of.ensures.same a)
-    ))
-    (λ (n : needs_clear c.args.dfa.now c.first_of.new.cache c.in_ok-state.state ≡ true). inr (
-      (unknown_start c.args.dfa.now c.args.cache.now c.args.mode (c.args.mode * 7 + c.as_usize.result) c.args.name c.start-known.result
-          c.args.start c.requires.own
-          (ap (λ (n : ℕ). c.args.mode * 7 + n) c.as_usize.ensures.number) c.requires.inside c.requires.named c.start-known.ensures
-          (sym c.is_not_known.ensures ∙ c.if-not-is_not_known.false)),
-      subst (λ (s : StateValue). needs_clear c.args.dfa.now c.args.cache.now s ≡ true) c.in_ok-state.ensures.value
-          (subst (λ (v : CacheValue). needs_clear c.args.dfa.now v c.in_ok-state.state ≡ true) c.first_of.ensures.same n),
-    ))
-    c.in-Ok.ensures.cause
-
--- ---- what is added
-
-pub returns-in-Err-clause-adds : goal.returns-in-Err-clause-adds
-returns-in-Err-clause-adds g c = inr (start_comes c.args.dfa.now c.args.cache.now c.first_of.new.cache c.place_start.new.cache
-    c.place_start.new.cache c.in_ok-state.state (first_state c.args.dfa.now c.args.start c.args.name) c.first_of.ensures.same
-    c.in_ok-state.ensures.value (refl, refl, refl)
-    (λ (a : Added c.args.cache.now c.place_start.new.cache). grew_added c.args.dfa.now c.args.cache.now c.place_start.new.cache
-    c.is_made.ensures c.requires.own a)
-    c.in-Err.ensures.adds)
-
-pub returns-in-Ok-clause-adds : goal.returns-in-Ok-clause-adds
-returns-in-Ok-clause-adds g c = inr (start_comes c.args.dfa.now c.args.cache.now c.first_of.new.cache c.place_start.new.cache
-    c.set_start.new.self c.in_ok-state.state (first_state c.args.dfa.now c.args.start c.args.name) c.first_of.ensures.same
-    c.in_ok-state.ensures.value (same_states _ c.set_start.new.self c.set_start.ensures)
-    (grew_start c.args.dfa.now c.args.cache.now c.place_start.new.cache c.set_start.new.self
-    (slot_of_start c.args.mode c.args.start) c.in-Ok.id (first_state c.args.dfa.now c.args.start c.args.name)
-    c.is_made.ensures c.requires.own
-    (unknown_start c.args.dfa.now c.args.cache.now c.args.mode (c.args.mode * 7 + c.as_usize.result) c.args.name c.start-known.result
-    c.args.start c.requires.own
-    (ap (λ (n : ℕ). c.args.mode * 7 + n) c.as_usize.ensures.number) c.requires.inside c.requires.named c.start-known.ensures
-    (sym c.is_not_known.ensures ∙ c.if-not-is_not_known.false))
-    (placed g c) (noted_at g c))
-    c.in-Ok.ensures.adds)
+    (sym c.is_not_known.ensures ∙ c.if-not-is_not_known.false) in
+    record {
+      free = λ n. absurd (n empty);
+      determinized = search rules;
+      inserted = search rules;
+    }

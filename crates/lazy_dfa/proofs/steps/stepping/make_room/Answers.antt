@@ -1,7 +1,7 @@
 use Rattle.std.proofs.Common.{◌≡◌, sym, subst, None, ℕ}
 use Rattle.lazy_dfa.specs.Ids.{has_tag, start_tag}
-use Rattle.lazy_dfa.specs.Caches.{CacheValue, IsCacheOf, HeldAt, id_at, state_at, row_holding, with_state, cleared}
-use Rattle.lazy_dfa.proofs.CacheChanges.IsCacheLemmas.{is_cache_kept, is_cache_refused, fresh_beside, kept_held}
+use Rattle.lazy_dfa.specs.Caches.{CacheValue, IsCacheOf, Fits, HeldAt, id_at, state_at, row_holding, with_state, cleared}
+use Rattle.lazy_dfa.proofs.CacheChanges.IsCacheLemmas.{is_cache_kept, is_cache_refused, fits_beside, fresh_beside, kept_held}
 use Rattle.lazy_dfa.proofs.steps.stepping.make_room.Goals as goal
 
 pub returns-in_err-id-clause-own : goal.returns-in_err-id-clause-own
@@ -20,7 +20,12 @@ returns-clause-from c = subst (λ (w : CacheValue). HeldAt w c.in_ok-id.id (stat
     (kept_held c.args.dfa.now c.args.cache.now c.args.k c.is_made.ensures c.requires.own c.requires.row
     (has_tag start_tag (id_at c.args.cache.now c.args.k))))
 
-pub returns-clause-fresh : goal.returns-clause-fresh
-returns-clause-fresh c = subst (λ (w : CacheValue). row_holding c.args.state.now w.states ≡ None) (sym c.in_ok-id.ensures.ok)
-    (fresh_beside c.args.dfa.now c.args.cache.now c.args.k c.is_made.ensures c.requires.own c.requires.row
-    (has_tag start_tag (id_at c.args.cache.now c.args.k)) c.args.state.now c.requires.fresh)
+pub returns-clause-room : goal.returns-clause-room
+returns-clause-room c = record {
+  fresh = subst (λ (w : CacheValue). row_holding c.args.state.now w.states ≡ None) (sym c.in_ok-id.ensures.ok)
+      (fresh_beside c.args.dfa.now c.args.cache.now c.args.k c.is_made.ensures c.requires.own c.requires.row
+      (has_tag start_tag (id_at c.args.cache.now c.args.k)) c.args.state.now c.requires.fresh);
+  fits = subst (Fits c.args.dfa.now.capacity c.args.state.now) (sym c.in_ok-id.ensures.ok)
+      (fits_beside c.args.dfa.now c.args.cache.now c.args.k c.is_made.ensures c.requires.own c.requires.row
+      (has_tag start_tag (id_at c.args.cache.now c.args.k)) c.args.state.now c.requires.is);
+}

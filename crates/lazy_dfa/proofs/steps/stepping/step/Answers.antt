@@ -1,10 +1,9 @@
-use Rattle.std.proofs.Common.{◌∙◌, sym, ap, true≢false}
+use Rattle.std.proofs.Common.{◌∙◌, sym, ap}
 use Rattle.search_core.specs.Units.{unit_byte}
 use Rattle.lazy_dfa.specs.Ids.{quit_id}
 use Rattle.lazy_dfa.proofs.CacheChanges.IsCacheLemmas.{row_place, row_of_held}
-use Rattle.lazy_dfa.proofs.CacheChanges.ChangeLemmas.{unknown_here, no_row}
-use Rattle.lazy_dfa.proofs.CacheChanges.StepLemmas.{sentinel_step, known_step, quit_step, quit_own, not_known_there}
-use Rattle.lazy_dfa.proofs.HalfSearches.CountedLemmas.{one_counted}
+use Rattle.lazy_dfa.proofs.CacheChanges.ChangeLemmas.{unknown_here}
+use Rattle.lazy_dfa.proofs.CacheChanges.StepLemmas.{sentinel_step, known_step, quit_step, quit_own}
 use Rattle.lazy_dfa.proofs.steps.stepping.step.Goals as goal
 
 -- ---- a sentinel
@@ -51,33 +50,3 @@ fill-requires-clause-unknown g c = unknown_here c.args.dfa.now c.args.cache.now 
     (unit_byte c.args.unit) c.is_made.ensures c.requires.own c.requires.unit c.requires.class c.cell-cell.ensures
     (row_of_held c.args.cache.now c.args.current c.requires.held (sym c.is_sentinel.ensures ∙ c.if-is_sentinel.false))
     (sym c.is_not_known.ensures ∙ c.if-not-is_not_known.false)
-
-pub returns-clause-step : goal.returns-clause-step
-returns-clause-step g c =
-    let x = c.fill.ensures in
-    let row = row_of_held c.args.cache.now c.args.current c.requires.held (sym c.is_sentinel.ensures ∙ c.if-is_sentinel.false) in
-    let quiet = sym c.requires.quit ∙ c.if-is_quit.false in
-    let unknown = unknown_here c.args.dfa.now c.args.cache.now c.args.current c.args.class c.cell-cell.result
-    (unit_byte c.args.unit) c.is_made.ensures c.requires.own c.requires.unit c.requires.class c.cell-cell.ensures row
-    (sym c.is_not_known.ensures ∙ c.if-not-is_not_known.false) in
-    let never = not_known_there c.args.dfa.now c.args.cache.now c.args.current (unit_byte c.args.unit) c.requires.own.shape row unknown in
-    record {
-      loops = λ is. absurd (no_row c.args.cache.now c.args.current c.requires.own.shape is row);
-      quits = λ plain q. absurd (true≢false (sym q ∙ quiet));
-      step = x.step;
-      tag = x.tag;
-      known = λ plain k. absurd (k unknown);
-      noted = x.noted;
-      ok = x.ok;
-      err = x.err;
-      gave_up = x.gave_up;
-      kept = x.kept;
-      remains = x.remains;
-      cause = x.cause;
-      adds = x.adds;
-      same = λ k. absurd (never k);
-      free = λ k. absurd (never k);
-      spares = λ q. absurd (true≢false (sym q ∙ quiet));
-      determinized = one_counted c.fill.new.work.determinized c.args.work.now.determinized x.determinized;
-      inserted = x.inserted;
-    }

@@ -34,28 +34,28 @@ returns-in-Ok-clause-made g c =
     c.start_behind-start.result named number is c.args.cache.now allowed in
     record {
       held = held_named c.start_in_mode.new.cache c.in-Ok.id
-          (first_state c.args.self.now c.start_behind-start.result c.in-Some-name_of.name) x.start;
+          (first_state c.args.self.now c.start_behind-start.result c.in-Some-name_of.name) x.answer.start;
       noted = λ q e. start_noted_at c.args.self.now c.args.config.now c.mode_number-number.result c.in-Some-name_of.name
-          c.start_behind-start.result named number is c.start_in_mode.new.cache c.in-Ok.id x.noted;
+          c.start_behind-start.result named number is c.start_in_mode.new.cache c.in-Ok.id x.answer.noted;
       known = λ none q e k. start_known c.args.self.now c.args.config.now c.mode_number-number.result c.in-Some-name_of.name
           c.start_behind-start.result named number is c.args.cache.now c.in-Ok.id _ _
-          refl refl (x.known (reported (inr (inr k))));
+          refl refl (x.answer.known (reported (inr (inr k))));
       none = λ none e. absurd (not_none _ c.in-Some-name_of.name (sym named) e);
-      same = λ k. x.same (reported k);
-      free = λ k. let w = x.free (reported k) in (λ i. (w i).determinized, λ i. (w i).inserted);
-      kept = x.kept;
+      same = λ k. x.changes.same (reported k);
+      free = λ k. x.made.free (reported k);
+      kept = x.changes.kept;
       remains = start_left c.args.self.now c.args.config.now c.mode_number-number.result c.in-Some-name_of.name
-          c.start_behind-start.result named number is c.args.cache.now c.start_in_mode.new.cache x.remains;
+          c.start_behind-start.result named number is c.args.cache.now c.start_in_mode.new.cache x.changes.remains;
       cause = start_needs c.args.self.now c.args.config.now c.mode_number-number.result c.in-Some-name_of.name
-          c.start_behind-start.result named number is c.args.cache.now c.start_in_mode.new.cache x.cause;
+          c.start_behind-start.result named number is c.args.cache.now c.start_in_mode.new.cache x.changes.cause;
       adds = start_adds c.args.self.now c.args.config.now c.mode_number-number.result c.in-Some-name_of.name
-          c.start_behind-start.result c.args.cache.now c.start_in_mode.new.cache allowed named is x.adds;
+          c.start_behind-start.result c.args.cache.now c.start_in_mode.new.cache allowed named is x.changes.adds;
       ok = start_fits c.args.self.now c.args.config.now c.mode_number-number.result c.in-Some-name_of.name
-          c.start_behind-start.result named number is c.args.cache.now x.ok;
+          c.start_behind-start.result named number is c.args.cache.now x.answer.ok;
       tag = start_tagged c.args.self.now c.args.config.now c.mode_number-number.result c.in-Some-name_of.name
-          c.start_behind-start.result named number is c.args.cache.now c.in-Ok.id x.tag;
-      determinized = x.determinized;
-      inserted = x.inserted;
+          c.start_behind-start.result named number is c.args.cache.now c.in-Ok.id x.answer.tag;
+      determinized = x.made.determinized;
+      inserted = x.made.inserted;
     }
 
 pub returns-in-Err-clause-made : goal.returns-in-Err-clause-made
@@ -72,18 +72,18 @@ returns-in-Err-clause-made g c =
       held = tt;
       noted = tt;
       known = λ none q e k. absurd (k (start_noted_at c.args.self.now c.args.config.now c.mode_number-number.result c.in-Some-name_of.name
-          c.start_behind-start.result named number is c.args.cache.now unknown_id x.unknown));
+          c.start_behind-start.result named number is c.args.cache.now unknown_id x.answer.unknown));
       none = λ none e. absurd (not_none _ c.in-Some-name_of.name (sym named) e);
-      same = λ k. x.same (reported k);
-      free = λ k. let w = x.free (reported k) in (λ i. (w i).determinized, λ i. (w i).inserted);
-      kept = x.kept;
+      same = λ k. x.changes.same (reported k);
+      free = λ k. x.made.free (reported k);
+      kept = x.changes.kept;
       remains = tt;
       cause = start_needs c.args.self.now c.args.config.now c.mode_number-number.result c.in-Some-name_of.name
-          c.start_behind-start.result named number is c.args.cache.now c.start_in_mode.new.cache x.cause;
+          c.start_behind-start.result named number is c.args.cache.now c.start_in_mode.new.cache x.changes.cause;
       adds = start_adds c.args.self.now c.args.config.now c.mode_number-number.result c.in-Some-name_of.name
-          c.start_behind-start.result c.args.cache.now c.start_in_mode.new.cache allowed named is x.adds;
+          c.start_behind-start.result c.args.cache.now c.start_in_mode.new.cache allowed named is x.changes.adds;
       ok = tt;
       tag = tt;
-      determinized = x.determinized;
-      inserted = x.inserted;
+      determinized = x.made.determinized;
+      inserted = x.made.inserted;
     }

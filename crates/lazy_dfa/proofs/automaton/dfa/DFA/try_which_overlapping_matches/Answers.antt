@@ -1,4 +1,4 @@
-use Rattle.std.proofs.Common.{refl}
+use Rattle.std.proofs.Common.{refl, rules}
 use Rattle.lazy_dfa.specs.Dfas.{reader}
 use Rattle.lazy_dfa.specs.Changes.{unchanged}
 use Rattle.lazy_dfa.specs.OverlappingAnswers.{which_made}
@@ -7,8 +7,15 @@ use Rattle.lazy_dfa.proofs.automaton.dfa.DFA.try_which_overlapping_matches.Goals
 
 -- ---- a done span
 
-pub returns-then-is_done-clause-changes : goal.returns-then-is_done-clause-changes
-returns-then-is_done-clause-changes g c = unchanged c.args.cache.now (which_made (reader c.args.self.now) c.args.input.now) refl
+pub returns-then-is_done-clause-which : goal.returns-then-is_done-clause-which
+returns-then-is_done-clause-which g c = record {
+  answer = search rules;
+  kept = search rules;
+  determinized = search rules;
+  inserted = search rules;
+  changes = unchanged c.args.cache.now (which_made (reader c.args.self.now) c.args.input.now) refl;
+  reported = search rules;
+}
 
 pub returns-clause-sure : goal.returns-clause-sure
 returns-clause-sure g c = is_sure c.args.self.now c.which.new.cache c.args.input.now c.args.patterns.now c.which.new.patterns c.which.result

@@ -2,7 +2,7 @@ use Rattle.std.proofs.Common.{subst}
 use Rattle.lazy_dfa.specs.SearchAnswers.{pair_of}
 use Rattle.lazy_dfa.proofs.Courses.LingerLemmas.{between_both}
 use Rattle.lazy_dfa.proofs.CacheChanges.LinkedLemmas.{AreBytes}
-use Rattle.lazy_dfa.proofs.search.passing.run_known.Goals as goal
+use Rattle.lazy_dfa.proofs.search.passing.run_further.Goals as goal
 
 pub returns-clause-goes : goal.returns-clause-goes
 returns-clause-goes c m n = between_both c.args.dfa.now c.args.cache.now c.args.input.now c.args.is_reverse c.args.position.at
