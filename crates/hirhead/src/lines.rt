@@ -227,26 +227,11 @@ fn tell(alloc: Global, text: &mut String, x: &Hir, levels: u8) -> Result<(), Unf
         return Err(Unfit::TooDeep);
     }
     match x.kind() {
-        HirKind::Empty => {
-            report_empty(text)?;
-            Ok(())
-        }
-        HirKind::Literal(bytes) => {
-            report_literal(alloc, text, bytes)?;
-            Ok(())
-        }
-        HirKind::Bytes(ranges) => {
-            report_bytes(text, ranges)?;
-            Ok(())
-        }
-        HirKind::Chars(ranges) => {
-            report_chars(text, ranges)?;
-            Ok(())
-        }
-        HirKind::Look(look) => {
-            report_look(text, *look)?;
-            Ok(())
-        }
+        HirKind::Empty => Ok(report_empty(text)?),
+        HirKind::Literal(bytes) => Ok(report_literal(alloc, text, bytes)?),
+        HirKind::Bytes(ranges) => Ok(report_bytes(text, ranges)?),
+        HirKind::Chars(ranges) => Ok(report_chars(text, ranges)?),
+        HirKind::Look(look) => Ok(report_look(text, *look)?),
         HirKind::Repetition {
             min,
             max,

@@ -99,19 +99,19 @@ state_at_end now here e none =
     let left : now.stack ≡ [] = ap (λ (s : QueryValue). s.stack) e ∙ none in
     sym (ap (λ (s : List Tree). record { setup = now.setup; stack = s; patterns = now.patterns }) left) ∙ e
 
-abbrev begun : Settings → List Tree → List Tree → QueryValue
-begun s stack patterns = record { setup = record { settings = s; anchored = false; span = None }; stack = stack; patterns = patterns }
+-- what a query begins with, of empty lists
+pub begun : (s : Settings) (stack patterns : List Tree) → s ≡ default_settings → stack ≡ [] → patterns ≡ [] →
+    record { setup = record { settings = s; anchored = false; span = None }; stack = stack; patterns = patterns } ≡ at_first
+begun s stack patterns d e f =
+    λ i. record { setup = record { settings = d i; anchored = false; span = None }; stack = e i; patterns = f i }
 
 -- if nothing was read, what the query begins with is there
-pub behind_none : (text : List ℕ) (s : Settings) (stack patterns : List Tree) → s ≡ default_settings → stack ≡ [] → patterns ≡ []
-    → Behind text text (begun s stack patterns) 0 0
-behind_none text s stack patterns d e f =
-    let first : begun s stack patterns ≡ at_first = λ i. begun (d i) (e i) (f i) in
-    record {
-      reads = λ found n h.
-          let z : 0 + n ≡ n = omega arith in
-          rw z (subst (λ (at : QueryValue). Reads text at found n) first h);
-      faults = λ k kind h.
-          let z : 0 + k ≡ k = omega arith in
-          rw z (subst (λ (at : QueryValue). IsFaultAt text at k kind) first h);
-    }
+pub behind_none : (text : List ℕ) (first : QueryValue) → first ≡ at_first → Behind text text first 0 0
+behind_none text first is = record {
+  reads = λ found n h.
+      let z : 0 + n ≡ n = omega arith in
+      rw z (subst (λ (at : QueryValue). Reads text at found n) is h);
+  faults = λ k kind h.
+      let z : 0 + k ≡ k = omega arith in
+      rw z (subst (λ (at : QueryValue). IsFaultAt text at k kind) is h);
+}

@@ -1,8 +1,8 @@
 // A query: its lines, one after the other.
-ghost use Rattle.std.specs.Prelude.{IfOk, IfErr, MatchOption};
+ghost use Rattle.std.specs.Prelude.{◌≡◌, [], IfOk, IfErr, MatchOption};
 ghost use Rattle.hirscan.specs.Takes.{at_first};
 ghost use Rattle.hirscan.specs.Reads.{IsOneLine, Reads};
-ghost use Rattle.hirscan.specs.QueryReports.{ReportsFault, CutsLine, value_of_query};
+ghost use Rattle.hirscan.specs.QueryReports.{ReportsFault, CutsLine, query_value, value_of_query};
 
 use crate::fault::{Fault, FaultKind};
 use crate::line::{HeadState, Setup, Step, read_line};
@@ -37,6 +37,40 @@ fn split_line(text: &[u8]) -> Option<(&[u8], &[u8])>
     Some((&text[..len], &text[len + 1..]))
 }
 
+/// The state before the first line.
+fn first_state(alloc: Global) -> HeadState
+    ensures { query_value result ≡ at_first }
+{
+    HeadState {
+        setup: Setup {
+            settings: Settings::new(),
+            anchored: false,
+            span: None,
+        },
+        stack: Vec::new(alloc),
+        patterns: Vec::new(alloc),
+    }
+}
+
+/// The query that ends in this state and has so many bytes. Trees that are left over aren't part of it.
+fn head_of(state: HeadState, len: usize) -> Head
+    ensures value { value_of_query result ≡ record { setup = state.setup; stack = []; patterns = state.patterns.items } }
+    ensures len { result.len ≡ len }
+{
+    let HeadState {
+        setup,
+        patterns,
+        ..
+    } = state;
+    Head {
+        settings: setup.settings,
+        anchored: setup.anchored,
+        span: setup.span,
+        patterns,
+        len,
+    }
+}
+
 /// Reads the query at the start of a text. Nothing after its line `find` is looked at.
 ///
 /// The call returns an error for the first line that can't be taken. If the text ends before there is a line
@@ -45,15 +79,7 @@ pub fn read_head(alloc: Global, text: &[u8]) -> Result<Head, Fault>
     ensures ok { IfOk result (λ head. Reads text.now at_first (value_of_query head) head.len) }
     ensures notation { IfErr result (λ e. ReportsFault text.now e) }
 {
-    let mut state = HeadState {
-        setup: Setup {
-            settings: Settings::new(),
-            anchored: false,
-            span: None,
-        },
-        stack: Vec::new(alloc),
-        patterns: Vec::new(alloc),
-    };
+    let mut state = first_state(alloc);
     let mut rest = text;
     let mut at = 0usize;
     let mut lines = 0usize;
@@ -72,20 +98,7 @@ pub fn read_head(alloc: Global, text: &[u8]) -> Result<Head, Fault>
         at += line.len() + 1;
         match step {
             Step::Next => lines += 1,
-            Step::End => {
-                let HeadState {
-                    setup,
-                    patterns,
-                    ..
-                } = state;
-                return Ok(Head {
-                    settings: setup.settings,
-                    anchored: setup.anchored,
-                    span: setup.span,
-                    patterns,
-                    len: at,
-                });
-            }
+            Step::End => return Ok(head_of(state, at)),
         }
     }
 }

@@ -13,12 +13,12 @@ pub use Rattle.pattern_search.proofs.FindLemmas.{finds_as_read}
 pub use Rattle.pattern_search.proofs.AllMatchLemmas.{all_from_start, lists_from, lists_as_read}
 -- the parsed patterns, with what their trees find
 pub use Rattle.pattern_search.proofs.ReadLemmas.{finds_what_is_written}
--- a pattern's bytes are parsed as one pattern, and the regex of what is parsed is of that pattern
-pub use Rattle.pattern_search.proofs.ReadLemmas.{same_patterns, one_same}
+-- a pattern's bytes are parsed as one pattern
+pub use Rattle.pattern_search.proofs.ReadLemmas.{same_patterns}
 -- the patterns that references refer to
 pub use Rattle.pattern_search.proofs.TextLemmas.{read_texts}
 -- what the matcher tries at an offset, and what it finds by that
 pub use Rattle.pattern_search.proofs.FindLemmas.{tried, found_is}
 pub use Rattle.pattern_search.proofs.BoundaryLemmas.{may_begin}
--- the span of what is found from an offset on, offset by offset; nothing is found where nothing is tried; what has starts alike is alike
-pub use Rattle.pattern_search.proofs.MatchSpanLemmas.{spans, step, NoEarlier, or_later, later_from, no_class, none_spans, alike_some}
+-- if starts are alike, there is either something on both sides or nothing
+pub use Rattle.pattern_search.proofs.MatchSpanLemmas.{alike_some}

@@ -1,12 +1,9 @@
 -- What several patterns are parsed as, and what their trees find.
-use Rattle.std.proofs.Common.{◌≡◌, ℕ, ◌≤◌, List, [], ◌∷◌, length, chars, Option, Some, None, IsSomeAnd, refl, sym, ap₂, ◌∙◌, subst}
-use Rattle.regex_hir.specs.declared.hir.Hir.{Hir}
-use Rattle.regex_hir.specs.Meaning.{meaning}
+use Rattle.std.proofs.Common.{◌≡◌, ℕ, ◌≤◌, List, [], ◌∷◌, chars, Option, Some, None, IsSomeAnd, refl, sym, ap₂, ◌∙◌}
 use Rattle.regex_hir.specs.Re.{Re}
 use Rattle.regex_syntax.specs.declared.Config.{Config}
 use Rattle.regex_syntax.specs.Brackets.{Nested}
-use Rattle.regex_syntax.specs.Captures.{SameCaptures}
-use Rattle.regex_syntax.specs.Grammar.{Names, group_count, read}
+use Rattle.regex_syntax.specs.Grammar.{Names, read}
 use Rattle.hir_core.specs.Tree.{Tree}
 use Rattle.regex_pair.specs.Pairs.{Pair}
 use Rattle.hir_regex.specs.declared.settings.Settings.{Settings}
@@ -79,11 +76,3 @@ same_patterns config (t ∷ ts) (a ∷ res) (b ∷ others) p q =
     ap₂ (λ (x : Re) (xs : List Re). x ∷ xs)
     (one_value (read config (chars t)) (λ it. it.0.value) (λ it. it.0.depth ≤ config.nest_limit) a b p.0 q.0)
     (same_patterns config ts res others p.1 q.1)
-
--- and one with the groups of what a regex of it holds
-pub one_same : (config : Config) (hir : Hir) (names : Names) (a : Re) (r : Option (Nested Re × Names)) →
-    IsSomeAnd r (λ (re, found). (re.depth ≤ config.nest_limit) × SameCaptures (meaning hir) re.value × (names ≡ found) ×
-    (group_count (meaning hir) ≤ length names)) →
-    IsSomeAnd r (λ (re, names). (re.depth ≤ config.nest_limit) × (re.value ≡ a)) → SameCaptures (meaning hir) a
-one_same config hir names a None p q = absurd p
-one_same config hir names a (Some (re, found)) p q = subst (SameCaptures (meaning hir)) q.1 p.1

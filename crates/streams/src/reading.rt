@@ -87,6 +87,17 @@ pub(crate) struct Read {
     pub(crate) error: Option<StreamError>,
 }
 
+/// The stream that is in this state, before the byte at an offset.
+#[inline(always)]
+fn stream_within(state: State, offset: usize) -> Stream
+    ensures { result ≡ within state offset }
+{
+    Stream {
+        point: Point::Within(state),
+        offset,
+    }
+}
+
 /// What was read if the reading ends at the byte after k bytes.
 fn stopped(stop: Stop, offset: usize, bytes: &[u8], k: usize, count: usize) -> Read
     requires inside { k < length bytes.now }
@@ -117,19 +128,13 @@ fn stopped(stop: Stop, offset: usize, bytes: &[u8], k: usize, count: usize) -> R
             }),
         },
         Stop::Full(state) => Read {
-            stream: Stream {
-                point: Point::Within(state),
-                offset: at,
-            },
+            stream: stream_within(state, at),
             taken: k,
             count,
             error: None,
         },
         Stop::Refused(state, error) => Read {
-            stream: Stream {
-                point: Point::Within(state),
-                offset: at,
-            },
+            stream: stream_within(state, at),
             taken: k,
             count,
             error: Some(error),

@@ -14,6 +14,7 @@ pub mod StackLemmas
 pub mod ReadLemmas
 pub mod LimbLemmas
 pub mod PathLemmas
+pub mod PathEndLemmas
 pub mod TurnedStrings
 pub mod ScalarCountLemmas
 pub mod ClassTrieLemmas

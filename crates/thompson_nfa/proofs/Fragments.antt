@@ -16,6 +16,5 @@ pub mod OptionLemmas
 pub mod ConcatLemmas
 pub mod CopyLemmas
 pub mod AlternativeLemmas
-pub mod FormRefusals
 pub mod DoesLemmas
 pub mod DoesCases

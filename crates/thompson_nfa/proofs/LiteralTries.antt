@@ -2,10 +2,13 @@
 
 pub mod LiteralLemmas
 pub mod LiteralGroupLemmas
+pub mod LiteralEndLemmas
 pub mod LiteralNodeLemmas
+pub mod LiteralRoundLemmas
 pub mod LiteralLaidLemmas
 pub mod LiteralPartLemmas
 pub mod LiteralStateLemmas
+pub mod LiteralRowLemmas
 pub mod LiteralStemLemmas
 pub mod LiteralTextLemmas
 pub mod LiteralTreeLemmas

@@ -108,6 +108,50 @@ fn first_slot(groups: &GroupInfo, pattern: PatternID, group: SmallIndex) -> usiz
     groups.slot(pattern, group.as_usize()).unwrap_or(0)
 }
 
+/// The state that notes where a group starts, and leads to the state of this name.
+#[inline(always)]
+fn group_start(
+    names: &[StateID],
+    groups: &GroupInfo,
+    pattern_id: PatternID,
+    group_index: SmallIndex,
+    next: StateID,
+) -> State
+    requires named { next < length names.now }
+    requires known { is_some (slot groups.now pattern_id group_index) ≡ true }
+    ensures { node_of result ≡ capture_node (name_in names.now next) pattern_id group_index
+        (unwrap_or (slot groups.now pattern_id group_index) 0) }
+{
+    State::Capture {
+        next: rename(names, next),
+        pattern_id,
+        group_index,
+        slot: SmallIndex::must(first_slot(groups, pattern_id, group_index)),
+    }
+}
+
+/// The state that notes where a group ends, and leads to the state of this name.
+#[inline(always)]
+fn group_end(
+    names: &[StateID],
+    groups: &GroupInfo,
+    pattern_id: PatternID,
+    group_index: SmallIndex,
+    next: StateID,
+) -> State
+    requires named { next < length names.now }
+    requires known { is_some (slot groups.now pattern_id group_index) ≡ true }
+    ensures { node_of result ≡ capture_node (name_in names.now next) pattern_id group_index
+        (unwrap_or (slot groups.now pattern_id group_index) 0 + 1) }
+{
+    State::Capture {
+        next: rename(names, next),
+        pattern_id,
+        group_index,
+        slot: SmallIndex::must(first_slot(groups, pattern_id, group_index) + 1),
+    }
+}
+
 /// The state of the automaton that a kept state of the builder becomes.
 fn kept_state(
     alloc: Global,
@@ -136,22 +180,12 @@ fn kept_state(
             pattern_id,
             group_index,
             next,
-        } => Ok(State::Capture {
-            next: rename(names, *next),
-            pattern_id: *pattern_id,
-            group_index: *group_index,
-            slot: SmallIndex::must(first_slot(groups, *pattern_id, *group_index)),
-        }),
+        } => Ok(group_start(names, groups, *pattern_id, *group_index, *next)),
         Draft::CaptureEnd {
             pattern_id,
             group_index,
             next,
-        } => Ok(State::Capture {
-            next: rename(names, *next),
-            pattern_id: *pattern_id,
-            group_index: *group_index,
-            slot: SmallIndex::must(first_slot(groups, *pattern_id, *group_index) + 1),
-        }),
+        } => Ok(group_end(names, groups, *pattern_id, *group_index, *next)),
         Draft::Union { alternates } => {
             let renamed = rename_all(alloc, names, alternates)?;
             Ok(ways_state(renamed))

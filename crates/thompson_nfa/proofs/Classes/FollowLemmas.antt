@@ -24,7 +24,8 @@ use Rattle.thompson_nfa.specs.Utf8Compiles.{ReadsAs, last_of, IsCompiling, IsBei
 use Rattle.thompson_nfa.proofs.Steps.LookLemmas.{uses_reads, uses_sequences}
 use Rattle.thompson_nfa.proofs.Fragments.DoesCases.{does_scalars}
 use Rattle.thompson_nfa.proofs.Fragments.JoinLemmas.{does_same}
-use Rattle.thompson_nfa.proofs.Classes.PathLemmas.{as_same, last_pushed}
+use Rattle.thompson_nfa.proofs.Classes.PathEndLemmas.{as_same}
+use Rattle.thompson_nfa.proofs.Classes.PathLemmas.{last_pushed}
 use Rattle.thompson_nfa.proofs.Classes.PieceLemmas.{pieces_before}
 use Rattle.thompson_nfa.proofs.Steps.ProgressLemmas.{made_capped}
 use Rattle.thompson_nfa.proofs.Classes.ReadLemmas.{as_itself, as_alt, as_then}

@@ -9,7 +9,7 @@ use Rattle.nfa_core.specs.declared.build_error.BuildError.{BuildError}
 use Rattle.thompson_nfa.specs.Compiled.{Makes, TakesBytes, Does, DoesFirst, IsReady, sum_of_bytes, way_at}
 use Rattle.thompson_nfa.specs.Added.{Led}
 use Rattle.thompson_nfa.specs.NotedGroups.{with_groups_of, HasGroup}
-use Rattle.thompson_nfa.specs.Refusals.{FailsFragment, ExceedsLimit, Stays, StaysAt}
+use Rattle.thompson_nfa.specs.Refusals.{FailsFragment, ExceedsLimit, StaysAt}
 use Rattle.thompson_nfa.specs.Turned.{turned_position, left_after}
 use Rattle.thompson_nfa.specs.Room.{room}
 use Rattle.thompson_nfa.specs.ByteRoom.{Bound, at_least, at_most, tree_bytes, tree_least, tree_most}
@@ -21,9 +21,16 @@ use Rattle.thompson_nfa.proofs.Fragments.TurnLemmas.{first_left, last_left, left
 use Rattle.thompson_nfa.proofs.Fragments.PartBytes.{part_bytes, left_bytes, bytes_of_concat}
 use Rattle.thompson_nfa.proofs.Fragments.TakeLemmas.{way_kept}
 use Rattle.thompson_nfa.proofs.Fragments.JoinLemmas.{join_made, join_does, does_first, does_all, does_same}
+use Rattle.thompson_nfa.proofs.Steps.ErrorLemmas.{Fails}
 use Rattle.thompson_nfa.proofs.Steps.ProgressLemmas.{Includes, first_made, then_made, made_capped, then_quits, refuses, then_refuses}
 use Rattle.thompson_nfa.proofs.Steps.ProgressLemmas.{first_refuses}
 use Rattle.thompson_nfa.proofs.Steps.NoGroups.{none_noted}
+
+-- the part at the position that is read next
+pub turned_part : (xs : List Tree) (x : Tree) (at i : ℕ) (read back : Bool) → x ≡ get_or xs at x → at ≡ turned_position read i (length xs) →
+    read ≡ back → x ≡ get_or xs (turned_position back i (length xs)) x
+turned_part xs x at i read back is turned same =
+    is ∙ ap (λ k. get_or xs k x) (turned ∙ ap (λ (b : Bool). turned_position b i (length xs)) same)
 
 turned_below : (back : Bool) (i len : ℕ) → i < len → turned_position back i len < len
 turned_below false i len l = l
@@ -186,6 +193,10 @@ parts_then how old b c d start end s e i x xs ready inside is ps m does g led w 
       );
     }
 
+-- adding a concatenation fails
+abbrev pub FailsParts : How → Assembly → Assembly → List Tree → BuildError → Type 0
+FailsParts how old new xs e = Fails how old new (room how.shrink (concat xs)) (concat xs) (tree_most how.which how.shrink (concat xs)) e
+
 module _ (how : How) (old mid : Assembly) (start end i : ℕ) (xs : List Tree) (ps : Parts how old mid start end i xs) where
   pub parts_made : Makes old mid start end (room how.shrink (concat xs))
   parts_made = let c = room_of_concat how.shrink xs in let r = ps.fits in made_capped (room how.shrink (concat xs)) ps.made (omega arith)
@@ -206,61 +217,57 @@ module _ (how : How) (old mid : Assembly) (start end i : ℕ) (xs : List Tree) (
     most = omega (arith, ps.bytes_most, bytes_of_concat (at_most how.shrink) how.which xs some);
   }
 
-  -- the next part
-  pub parts_left : (x : Tree) → i < length xs → x ≡ get_or xs (turned_position old.reverse i (length xs)) x →
-      sum_of_bytes mid + way_at mid end + tree_most how.which how.shrink x ≤ sum_of_bytes old + tree_most how.which how.shrink (concat xs)
-  parts_left x inside is = omega (
-    arith,
-    ps.bytes_most,
-    left_bytes (at_most how.shrink) how.which 0 old.reverse xs i x inside is,
-    bytes_of_concat (at_most how.shrink) how.which xs (omega arith),
-  )
+  module _ (x : Tree) (inside : i < length xs) (is : x ≡ get_or xs (turned_position old.reverse i (length xs)) x) where
+    -- the next part
+    parts_left : sum_of_bytes mid + way_at mid end + tree_most how.which how.shrink x
+        ≤ sum_of_bytes old + tree_most how.which how.shrink (concat xs)
+    parts_left = omega (
+      arith,
+      ps.bytes_most,
+      left_bytes (at_most how.shrink) how.which 0 old.reverse xs i x inside is,
+      bytes_of_concat (at_most how.shrink) how.which xs (omega arith),
+    )
 
-  -- the transition to it
-  pub parts_lead_passed : (c new : Assembly) (s e n : ℕ) (x : Tree) (err : BuildError) → i < length xs →
-      x ≡ get_or xs (turned_position old.reverse i (length xs)) x → Makes mid c s e n →
-      TakesBytes mid c e (tree_least how.which x) (tree_most how.which how.shrink x) → StaysAt c new end err →
-      ExceedsLimit old (tree_most how.which how.shrink (concat xs)) err
-  parts_lead_passed c new s e n x err inside is made w r =
-      omega (arith, parts_left x inside is, w.most, way_kept made.fragment.grows end ps.made.fragment.end_there, r.passed)
+    -- adding the next part fails
+    pub next_part_fails : (new : Assembly) (e : BuildError) → FailsFragment how.which mid new (room how.shrink x) x e →
+        ExceedsLimit mid (tree_most how.which how.shrink x) e → FailsParts how old new xs e
+    next_part_fails new e r passed =
+        let counted = left_room how.shrink old.reverse xs i x inside is in
+        let fits = ps.fits in
+        let c = room_of_concat how.shrink xs in (
+          first_refuses (room how.shrink (concat xs)) (concat xs) (then_refuses (rooms how.shrink xs) (concat xs) (first_made ps.made) r
+              (concat_includes how.which xs (turned_position old.reverse i (length xs)) x (turned_below old.reverse i (length xs) inside) is)
+              (omega arith))
+              (λ index h. h) (omega arith),
+          omega (arith, parts_left, passed),
+        )
 
-  -- adding the next part fails, or leading to it fails
-  pub parts_refused : (new : Assembly) (x : Tree) (e : BuildError) → i < length xs →
-      x ≡ get_or xs (turned_position old.reverse i (length xs)) x →
-      FailsFragment how.which mid new (room how.shrink x) x e →
-      FailsFragment how.which old new (room how.shrink (concat xs)) (concat xs) e
-  parts_refused new x e inside is r =
-      let counted = left_room how.shrink old.reverse xs i x inside is in
-      let fits = ps.fits in
-      let c = room_of_concat how.shrink xs in
-      first_refuses (room how.shrink (concat xs)) (concat xs) (then_refuses (rooms how.shrink xs) (concat xs) (first_made ps.made) r
-      (concat_includes how.which xs (turned_position old.reverse i (length xs)) x (turned_below old.reverse i (length xs) inside) is)
-      (omega arith))
-      (λ index h. h) (omega arith)
-
-  pub parts_lead_refused : (b new : Assembly) (s t : ℕ) (x : Tree) (e : BuildError) → i < length xs →
-      x ≡ get_or xs (turned_position old.reverse i (length xs)) x →
-      Makes mid b s t (room how.shrink x) → Stays b new 0 4 e →
-      FailsFragment how.which old new (room how.shrink (concat xs)) (concat xs) e
-  parts_lead_refused b new s t x e inside is m r =
-      let counted = left_room how.shrink old.reverse xs i x inside is in
-      let fits = ps.fits in
-      let c = room_of_concat how.shrink xs in
-      refuses how.which (room how.shrink (concat xs)) (concat xs) (then_quits (rooms how.shrink xs)
-      (then_made 8 (first_made ps.made) m (omega arith)) r (omega arith) (omega arith)) (omega arith)
-
-pub first_part_bytes : (b : Bound) (which : WhichCaptures) (back : Bool) (x : Tree) (xs : List Tree) → 0 < length xs →
-    x ≡ get_or xs (turned_position back 0 (length xs)) x → tree_bytes b which false x ≤ tree_bytes b which false (concat xs)
-first_part_bytes b which back x xs some is = omega (arith, parted b which back xs x some is, bytes_of_concat b which xs some)
+    -- the transition to it fails
+    pub part_lead_fails : (b new : Assembly) (s t : ℕ) (e : BuildError) → Makes mid b s t (room how.shrink x) →
+        TakesBytes mid b t (tree_least how.which x) (tree_most how.which how.shrink x) → StaysAt b new end e → FailsParts how old new xs e
+    part_lead_fails b new s t e m w r =
+        let counted = left_room how.shrink old.reverse xs i x inside is in
+        let fits = ps.fits in
+        let c = room_of_concat how.shrink xs in (
+          refuses how.which (room how.shrink (concat xs)) (concat xs) (then_quits (rooms how.shrink xs)
+              (then_made 8 (first_made ps.made) m (omega arith)) r.stays (omega arith) (omega arith)) (omega arith),
+          omega (arith, parts_left, w.most, way_kept m.fragment.grows end ps.made.fragment.end_there, r.passed),
+        )
 
 -- adding the first part fails
-pub first_part_refused : (how : How) (old new : Assembly) (x : Tree) (xs : List Tree) (e : BuildError) → 0 < length xs →
-    x ≡ get_or xs (turned_position old.reverse 0 (length xs)) x →
-    FailsFragment how.which old new (room how.shrink x) x e →
-    FailsFragment how.which old new (room how.shrink (concat xs)) (concat xs) e
-first_part_refused how old new x xs e some is r =
+pub first_part_fails : (how : How) (old new : Assembly) (x : Tree) (xs : List Tree) (e : BuildError) → 0 < length xs →
+    x ≡ get_or xs (turned_position old.reverse 0 (length xs)) x → FailsFragment how.which old new (room how.shrink x) x e →
+    ExceedsLimit old (tree_most how.which how.shrink x) e → FailsParts how old new xs e
+first_part_fails how old new x xs e some is r passed =
     let counted = left_room how.shrink old.reverse xs 0 x some is in
     let all : rooms how.shrink (left_after old.reverse 0 xs) ≡ rooms how.shrink xs = ap (rooms how.shrink) (left_all old.reverse xs) in
-    let c = room_of_concat how.shrink xs in
-    first_refuses (room how.shrink (concat xs)) (concat xs) r (concat_includes how.which xs (turned_position old.reverse 0 (length xs)) x
-    (turned_below old.reverse 0 (length xs) some) is) (omega arith)
+    let c = room_of_concat how.shrink xs in (
+      first_refuses (room how.shrink (concat xs)) (concat xs) r (concat_includes how.which xs (turned_position old.reverse 0 (length xs)) x
+          (turned_below old.reverse 0 (length xs) some) is) (omega arith),
+      omega (
+        arith,
+        parted (at_most how.shrink) how.which old.reverse xs x some is,
+        bytes_of_concat (at_most how.shrink) how.which xs some,
+        passed,
+      ),
+    )

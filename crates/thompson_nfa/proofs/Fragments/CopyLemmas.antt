@@ -9,7 +9,7 @@ use Rattle.thompson_nfa.specs.Compiled.{Makes, TakesBytes, Does, DoesFirst, Does
 use Rattle.thompson_nfa.specs.Compiled.{way_at}
 use Rattle.thompson_nfa.specs.Added.{AddsDraft, Led}
 use Rattle.thompson_nfa.specs.NotedGroups.{with_groups_of}
-use Rattle.thompson_nfa.specs.Refusals.{FailsFragment, ExceedsLimit, Stays, StaysAt}
+use Rattle.thompson_nfa.specs.Refusals.{FailsFragment, ExceedsLimit, StaysAt}
 use Rattle.thompson_nfa.specs.Room.{room}
 use Rattle.thompson_nfa.specs.ByteRoom.{tree_least, tree_most, rounds_bytes}
 use Rattle.thompson_nfa.specs.declared.compiling.How.{How}
@@ -20,8 +20,10 @@ use Rattle.thompson_nfa.proofs.Fragments.PartBytes.{copies_before, round_bytes, 
 use Rattle.thompson_nfa.proofs.Fragments.TakeLemmas.{way_kept, takes_wider, join_takes}
 use Rattle.thompson_nfa.proofs.Fragments.JoinLemmas.{join_made, join_first, join_second, join_does, does_first, does_all, does_same}
 use Rattle.thompson_nfa.proofs.Steps.NotedLemmas.{noted_twice}
+use Rattle.thompson_nfa.proofs.Steps.ErrorLemmas.{Fails}
 use Rattle.thompson_nfa.proofs.Steps.ProgressLemmas.{first_made, then_made, made_capped, then_quits, refuses, then_refuses}
-use Rattle.thompson_nfa.proofs.Fragments.RepeatLemmas.{reads_as}
+use Rattle.thompson_nfa.proofs.Steps.ProgressLemmas.{first_added, first_refuses}
+use Rattle.thompson_nfa.proofs.Fragments.RepeatLemmas.{empty_tame, reads_as}
 use Rattle.thompson_nfa.proofs.Fragments.OptionLemmas.{Options, options_owed, options_first, options_then, options_made, options_does}
 
 one_raised : (most : Option ℕ) → one_more most ≡ raised 1 most
@@ -103,37 +105,40 @@ copies_then how old b c d start end s e i x cs m does g led w = record {
       (omega arith);
 }
 
--- one more copy
-pub copies_left : (how : How) (old b : Assembly) (start end i n : ℕ) (x : Tree) → Copies how old b start end i x → i < n →
-    sum_of_bytes b + way_at b end + tree_most how.which how.shrink x ≤ sum_of_bytes old + n * tree_most how.which how.shrink x
-copies_left how old b start end i n x cs l = omega (arith, cs.weighs.most, one_fits i n (tree_most how.which how.shrink x) l)
+-- adding so many copies fails
+abbrev pub FailsCopies : How → Assembly → Assembly → ℕ → Tree → BuildError → Type 0
+FailsCopies how old new n x e = Fails how old new (n * room how.shrink x) x (n * tree_most how.which how.shrink x) e
 
--- the transition to it
-pub copies_lead_passed : (how : How) (old b c new : Assembly) (start end i n s e : ℕ) (x : Tree) (err : BuildError) →
-    Copies how old b start end i x → i < n → Makes b c s e (room how.shrink x) →
-    TakesBytes b c e (tree_least how.which x) (tree_most how.which how.shrink x) → StaysAt c new end err →
-    ExceedsLimit old (n * tree_most how.which how.shrink x) err
-copies_lead_passed how old b c new start end i n s e x err cs l made w r = omega (
-  arith,
-  copies_left how old b start end i n x cs l,
-  w.most,
-  way_kept made.fragment.grows end cs.made.fragment.end_there,
-  r.passed,
+-- adding the first of them fails
+pub first_copy_fails : (how : How) (old new : Assembly) (n : ℕ) (x : Tree) (e : BuildError) → 1 ≤ n →
+    FailsFragment how.which old new (room how.shrink x) x e → ExceedsLimit old (tree_most how.which how.shrink x) e →
+    FailsCopies how old new n x e
+first_copy_fails how old new n x e some r passed = (
+  first_refuses (n * room how.shrink x) x r (λ index h. h) (omega (arith, one_fits 0 n (room how.shrink x) some)),
+  omega (arith, one_fits 0 n (tree_most how.which how.shrink x) some, passed),
 )
 
-pub copies_refused : (how : How) (old b new : Assembly) (start end i n : ℕ) (x : Tree) (e : BuildError) → Copies how old b start end i x →
-    i < n → FailsFragment how.which b new (room how.shrink x) x e →
-    FailsFragment how.which old new (n * room how.shrink x) x e
-copies_refused how old b new start end i n x e cs l r = let fits = one_fits i n (room how.shrink x) l in
-    then_refuses (n * room how.shrink x) x (first_made cs.made) r (λ index h. h) fits
+module _ (how : How) (old b : Assembly) (start end i n : ℕ) (x : Tree) (cs : Copies how old b start end i x) (inside : i < n) where
+  -- one more copy
+  copies_left : sum_of_bytes b + way_at b end + tree_most how.which how.shrink x ≤ sum_of_bytes old + n * tree_most how.which how.shrink x
+  copies_left = omega (arith, cs.weighs.most, one_fits i n (tree_most how.which how.shrink x) inside)
 
-pub copies_lead_refused : (how : How) (old b c new : Assembly) (start end s t i n : ℕ) (x : Tree) (e : BuildError) →
-    Copies how old b start end i x → i < n → Makes b c s t (room how.shrink x) → Stays c new 0 4 e →
-    FailsFragment how.which old new (n * room how.shrink x) x e
-copies_lead_refused how old b c new start end s t i n x e cs l m r =
-    let fits = one_fits i n (room how.shrink x) l in
-    refuses how.which (n * room how.shrink x) x (then_quits (n * room how.shrink x) (then_made 8 (first_made cs.made) m (omega arith)) r
-    (omega arith) (omega arith)) (omega arith)
+  pub next_copy_fails : (new : Assembly) (e : BuildError) → FailsFragment how.which b new (room how.shrink x) x e →
+      ExceedsLimit b (tree_most how.which how.shrink x) e → FailsCopies how old new n x e
+  next_copy_fails new e r passed = (
+    then_refuses (n * room how.shrink x) x (first_made cs.made) r (λ index h. h) (one_fits i n (room how.shrink x) inside),
+    omega (arith, copies_left, passed),
+  )
+
+  -- the transition to it
+  pub copy_lead_fails : (c new : Assembly) (s t : ℕ) (e : BuildError) → Makes b c s t (room how.shrink x) →
+      TakesBytes b c t (tree_least how.which x) (tree_most how.which how.shrink x) → StaysAt c new end e → FailsCopies how old new n x e
+  copy_lead_fails c new s t e made w r =
+      let fits = one_fits i n (room how.shrink x) inside in (
+        refuses how.which (n * room how.shrink x) x (then_quits (n * room how.shrink x) (then_made 8 (first_made cs.made) made (omega
+            arith)) r.stays (omega arith) (omega arith)) (omega arith),
+        omega (arith, copies_left, w.most, way_kept made.fragment.grows end cs.made.fragment.end_there, r.passed),
+      )
 
 -- exactly so many copies
 pub copies_exact : (old new : Assembly) (s e low most : ℕ) (greedy : Bool) (x : Tree) → low ≡ most → DoesCopies old new s e low x →
@@ -205,6 +210,17 @@ rounds_first how t0 t1 t2 u e z (suc left) greedy x some added m does g w = reco
   bytes_most = omega (arith, w.most, added.bytes, round_bytes 0 (suc left) (tree_most how.which how.shrink x + 32) some);
 }
 
+-- adding the first of so many rounds that may be skipped fails
+pub first_round_fails : (how : How) (t0 t1 new : Assembly) (z most : ℕ) (x : Tree) (e : BuildError) → 0 < most →
+    AddsDraft t0 t1 z (empty_draft 0) t0.groups → FailsFragment how.which t1 new (room how.shrink x + 1) x e →
+    ExceedsLimit t1 (tree_most how.which how.shrink x + 32) e →
+    Fails how t0 new (most * (room how.shrink x + 1) + 1) x (rounds_bytes 0 most (tree_most how.which how.shrink x)) e
+first_round_fails how t0 t1 new z most x e some exit r passed = (
+  then_refuses (most * (room how.shrink x + 1) + 1) x (first_added 4000 exit (empty_tame exit) (omega arith)) r (λ index h. h)
+      (omega (arith, one_fits 0 most (room how.shrink x + 1) some)),
+  omega (arith, round_bytes 0 most (tree_most how.which how.shrink x + 32) some, exit.bytes, passed),
+)
+
 module _ (how : How) (old b : Assembly) (start end z i low most total : ℕ) (greedy : Bool) (x : Tree)
     (rs : Rounds how old b start end z i low most total greedy x) where
   pub rounds_then : (c d : Assembly) (u e : ℕ) → i < most → Makes b c u e (room how.shrink x + 1) → DoesOption b c u e z greedy x →
@@ -243,18 +259,6 @@ module _ (how : How) (old b : Assembly) (start end z i low most total : ℕ) (gr
         );
       }
 
-  -- one more round
-  pub rounds_left : i < most → sum_of_bytes b + way_at b end + (tree_most how.which how.shrink x + 32)
-      ≤ sum_of_bytes old + rounds_bytes low most (tree_most how.which how.shrink x)
-  rounds_left l = omega (arith, rs.bytes_most, round_bytes i most (tree_most how.which how.shrink x + 32) l)
-
-  -- the transition to it
-  pub rounds_lead_passed : (c new : Assembly) (u e : ℕ) (err : BuildError) → i < most → Makes b c u e (room how.shrink x + 1) →
-      TakesBytes b c e (tree_least how.which x + 32) (tree_most how.which how.shrink x + 32) → StaysAt c new end err →
-      ExceedsLimit old (rounds_bytes low most (tree_most how.which how.shrink x)) err
-  rounds_lead_passed c new u e err l made w r =
-      omega (arith, rounds_left l, w.most, way_kept made.fragment.grows end rs.options.end_there, r.passed)
-
   pub rounds_take : (new : Assembly) → Led b new end z → most ≤ i →
       TakesBytes old new z (rounds_bytes low most (tree_least how.which x)) (rounds_bytes low most (tree_most how.which how.shrink x))
   rounds_take new led over =
@@ -264,20 +268,32 @@ module _ (how : How) (old b : Assembly) (start end z i low most total : ℕ) (gr
         most = omega (arith, rs.bytes_most, led.takes, exit);
       }
 
-  pub rounds_refused : (new : Assembly) (e : BuildError) → i < most → FailsFragment how.which b new (room how.shrink x + 1) x e →
-      FailsFragment how.which old new total x e
-  rounds_refused new e l r =
-      let step = round_bytes i most (room how.shrink x + 1) l in
-      let fits = rs.fits in
-      then_refuses total x rs.options.progress r (λ index h. h) (omega arith)
+  -- adding one more round fails
+  rounds_left : i < most → sum_of_bytes b + way_at b end + (tree_most how.which how.shrink x + 32)
+      ≤ sum_of_bytes old + rounds_bytes low most (tree_most how.which how.shrink x)
+  rounds_left l = omega (arith, rs.bytes_most, round_bytes i most (tree_most how.which how.shrink x + 32) l)
 
-  pub rounds_lead_refused : (c new : Assembly) (u t : ℕ) (e : BuildError) → i < most → Makes b c u t (room how.shrink x + 1) →
-      Stays c new 0 4 e → FailsFragment how.which old new total x e
-  rounds_lead_refused c new u t e l m r =
+  pub next_round_fails : (new : Assembly) (e : BuildError) → i < most → FailsFragment how.which b new (room how.shrink x + 1) x e →
+      ExceedsLimit b (tree_most how.which how.shrink x + 32) e →
+      Fails how old new total x (rounds_bytes low most (tree_most how.which how.shrink x)) e
+  next_round_fails new e l r passed =
       let step = round_bytes i most (room how.shrink x + 1) l in
-      let fits = rs.fits in
-      refuses how.which total x (then_quits total (then_made 8 rs.options.progress m (omega arith)) r (omega arith) (omega arith))
-      (omega arith)
+      let fits = rs.fits in (
+        then_refuses total x rs.options.progress r (λ index h. h) (omega arith),
+        omega (arith, rounds_left l, passed),
+      )
+
+  -- the transition to it fails
+  pub round_lead_fails : (c new : Assembly) (u t : ℕ) (e : BuildError) → i < most → Makes b c u t (room how.shrink x + 1) →
+      TakesBytes b c t (tree_least how.which x + 32) (tree_most how.which how.shrink x + 32) → StaysAt c new end e →
+      Fails how old new total x (rounds_bytes low most (tree_most how.which how.shrink x)) e
+  round_lead_fails c new u t e l made w r =
+      let step = round_bytes i most (room how.shrink x + 1) l in
+      let fits = rs.fits in (
+        refuses how.which total x (then_quits total (then_made 8 rs.options.progress made (omega arith)) r.stays (omega arith) (omega
+            arith)) (omega arith),
+        omega (arith, rounds_left l, w.most, way_kept made.fragment.grows end rs.options.end_there, r.passed),
+      )
 
   pub rounds_made : (new : Assembly) → Led b new end z → most ≤ i → Makes old new start z total
   rounds_made new led over =

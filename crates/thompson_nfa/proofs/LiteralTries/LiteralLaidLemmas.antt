@@ -12,7 +12,8 @@ use Rattle.thompson_nfa.specs.LiteralLaid.{NodeValue, no_node, node_weight, weig
 use Rattle.thompson_nfa.specs.LiteralStems.{BeginAll, without_first, after_prefix}
 use Rattle.thompson_nfa.specs.LiteralTries.{literal_ends_of, edges_in, matches_in, IsNode}
 use Rattle.thompson_nfa.proofs.LiteralTries.LiteralGroupLemmas.{all_some_append, all_bytes_append, all_strings_append}
-use Rattle.thompson_nfa.proofs.LiteralTries.LiteralNodeLemmas.{are_wider, strings_kept, texts_long}
+use Rattle.thompson_nfa.proofs.LiteralTries.LiteralNodeLemmas.{are_wider, strings_kept}
+use Rattle.thompson_nfa.proofs.LiteralTries.LiteralRoundLemmas.{texts_long}
 use Rattle.thompson_nfa.proofs.LiteralTries.LiteralStemLemmas.{behind_long, behind_bytes, behind_without}
 
 got_before : (gs hs : List (List (List ℕ))) (k : ℕ) → k < length gs → get_or (gs ++ hs) k [] ≡ get_or gs k []

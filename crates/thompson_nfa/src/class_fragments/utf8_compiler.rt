@@ -178,7 +178,7 @@ fn first_difference(state: &Utf8State, ranges: &[Utf8Range]) -> usize
 /// Begins a class: adds the state that is its end, to which all its sequences lead.
 ///
 /// As `regex_automata::nfa::thompson::compiler::Utf8Compiler::new`.
-#[tactic(auto, using(crate::proofs::Classes::PathLemmas::compile_begun, crate::proofs::Classes::SequenceBytes::begun_weighs, crate::proofs::Steps::ProgressLemmas::first_quits))]
+#[tactic(auto, using(crate::proofs::Classes::PathEndLemmas::compile_begun, crate::proofs::Classes::SequenceBytes::begun_weighs, crate::proofs::Steps::ProgressLemmas::first_quits))]
 pub(crate) fn begin(builder: &mut Builder, state: &mut Utf8State) -> Result<(), BuildError>
     ensures begun { IfOk result (λ _. IsCompiling builder.old builder.new state.new.end state.new.compiled state.new.nodes.items []) }
     ensures weighs { IfOk result (λ _. sum_of_bytes builder.new + left_bytes state.new.nodes.items ≤ sum_of_bytes builder.old + 48) }

@@ -1,4 +1,4 @@
-use Rattle.std.proofs.Common.{arith}
+use Rattle.std.proofs.Common.{arith, ◌∙◌}
 use Rattle.hirscan.proofs.HeadLemmas.{length-cut, behind_none, behind_more, reads_at_find, fault_in_line, fault_at_end, state_at_end}
 use Rattle.hirscan.proofs.head.read_head.Goals as goal
 
@@ -27,15 +27,15 @@ returns-in-Err-clause-notation c =
 pub returns-in-End-clause-ok : goal.returns-in-End-clause-ok
 returns-in-End-clause-ok c =
     let ends = rw c.in-End.is at c.in-Ok.ensures.ok in
-    reads_at_find c.args.text.now c.lines.rest.now c.in-Some.line.now c.in-Some.behind.now _ _ c.lines.at c.lines.lines
-    c.lines.invariant.behind c.in-Some.ensures ends.0 (state_at_end _ _ ends.1 ends.0.nothing_left)
+    rw c.head_of.ensures.len
+    (reads_at_find c.args.text.now c.lines.rest.now c.in-Some.line.now c.in-Some.behind.now _ _ c.lines.at c.lines.lines
+    c.lines.invariant.behind c.in-Some.ensures ends.0
+    (c.head_of.ensures.value ∙ state_at_end _ _ ends.1 ends.0.nothing_left))
 
 pub lines-init : goal.lines-init
 lines-init c =
     record {
       all_read = omega arith;
       lines_read = omega arith;
-      behind =
-          behind_none c.args.text.now c.new.result c.new-2.result.items c.new-3.result.items c.new.ensures c.new-2.ensures.items
-          c.new-3.ensures.items;
+      behind = behind_none c.args.text.now _ c.first_state-state.ensures;
     }

@@ -1,43 +1,30 @@
-use Rattle.std.proofs.Common.{◌∙◌, ◌+◌, ap, sym, refl, length, get_or, arith}
+use Rattle.std.proofs.Common.{◌∙◌, ap, sym, refl, length, arith}
 use Rattle.hir_core.specs.Weight.{weight}
 use Rattle.hir_core.specs.Facts.{minimum_len}
 use Rattle.nfa_core.specs.BuilderStates.{Assembly}
 use Rattle.thompson_nfa.specs.Compiled.{is_above_zero}
-use Rattle.thompson_nfa.specs.ByteRoom.{at_least, at_most, tree_least, tree_most}
-use Rattle.thompson_nfa.specs.Turned.{turned_position}
-use Rattle.thompson_nfa.proofs.Steps.ErrorLemmas.{handed, err_only}
+use Rattle.thompson_nfa.specs.ByteRoom.{tree_least, tree_most}
+use Rattle.thompson_nfa.proofs.Steps.ErrorLemmas.{handed, only_fails}
 use Rattle.thompson_nfa.proofs.Steps.GrowLemmas.{ready_later}
 use Rattle.thompson_nfa.proofs.Steps.ProgressLemmas.{made_capped}
 use Rattle.thompson_nfa.proofs.Fragments.RepeatLemmas.{star_made, star_does, plus_made, plus_does, loop_made, loop_does}
 use Rattle.thompson_nfa.proofs.Fragments.OptionLemmas.{option_made, option_does}
 use Rattle.thompson_nfa.proofs.Fragments.CopyLemmas.{copies_first, copies_then, copies_exact, copies_loop, rounds_owed, rounds_first}
 use Rattle.thompson_nfa.proofs.Fragments.CopyLemmas.{rounds_then, rounds_made, rounds_does, copies_done, at_least_made, stopped_does}
-use Rattle.thompson_nfa.proofs.Fragments.CopyLemmas.{bounds_does, groups_again, copies_left, copies_lead_passed}
-use Rattle.thompson_nfa.proofs.Fragments.CopyLemmas.{rounds_left, rounds_lead_passed, rounds_take}
-use Rattle.thompson_nfa.proofs.Fragments.PartBytes.{bytes_of_alternation, bytes_of_literals}
-use Rattle.thompson_nfa.proofs.Fragments.PartBytes.{two_bytes, round_bytes, copies_before, loop_is, some_owed, group_kept}
+use Rattle.thompson_nfa.proofs.Fragments.CopyLemmas.{bounds_does, groups_again, rounds_take, first_copy_fails, next_copy_fails}
+use Rattle.thompson_nfa.proofs.Fragments.CopyLemmas.{copy_lead_fails, first_round_fails, next_round_fails, round_lead_fails}
+use Rattle.thompson_nfa.proofs.Fragments.PartBytes.{copies_before, loop_is, some_owed, group_kept}
 use Rattle.thompson_nfa.proofs.Fragments.TakeLemmas.{takes_wider, star_takes, plus_takes, option_takes, loop_takes, capture_takes}
-use Rattle.thompson_nfa.proofs.Fragments.TakeLemmas.{join_takes, second_lead_passed, third_lead_passed}
-use Rattle.thompson_nfa.proofs.Fragments.TakeLemmas.{fourth_lead_passed}
+use Rattle.thompson_nfa.proofs.Fragments.TakeLemmas.{join_takes}
 use Rattle.thompson_nfa.proofs.Fragments.CaptureLemmas.{capture_made, capture_does, plain_does}
-use Rattle.thompson_nfa.proofs.Fragments.ConcatLemmas.{weight_in_alternation, parts_first, parts_then, parts_made, parts_does}
-use Rattle.thompson_nfa.proofs.Fragments.ConcatLemmas.{parts_refused, parts_lead_refused, first_part_refused}
-use Rattle.thompson_nfa.proofs.Fragments.ConcatLemmas.{parts_weigh, parts_left, parts_lead_passed, first_part_bytes}
+use Rattle.thompson_nfa.proofs.Fragments.ConcatLemmas.{parts_first, parts_then, parts_made, parts_does, parts_weigh, turned_part}
+use Rattle.thompson_nfa.proofs.Fragments.ConcatLemmas.{first_part_fails, next_part_fails, part_lead_fails}
 use Rattle.thompson_nfa.proofs.Fragments.TurnLemmas.{none_is_concat}
 use Rattle.thompson_nfa.proofs.Fragments.JoinLemmas.{does_same}
-use Rattle.thompson_nfa.proofs.Fragments.AlternativeLemmas.{cases_open, union_refused, end_refused, first_lead_refused, second_lead_refused}
-use Rattle.thompson_nfa.proofs.Fragments.AlternativeLemmas.{third_lead_refused, fourth_lead_refused, cases_then, cases_refused}
-use Rattle.thompson_nfa.proofs.Fragments.AlternativeLemmas.{cases_lead_refused, cases_end_refused, cases_made, cases_does, single_does}
-use Rattle.thompson_nfa.proofs.Fragments.AlternativeLemmas.{cases_weigh, cases_left, cases_lead_passed, first_alternative, single_bytes}
-use Rattle.thompson_nfa.proofs.LiteralTries.LiteralLemmas.{literals_made, literals_noted, literals_refused}
-use Rattle.thompson_nfa.specs.Room.{room}
-use Rattle.thompson_nfa.proofs.Fragments.CopyLemmas.{one_fits, copies_refused, copies_lead_refused}
-use Rattle.thompson_nfa.proofs.Fragments.CopyLemmas.{rounds_refused, rounds_lead_refused}
-use Rattle.thompson_nfa.proofs.Fragments.AlternativeLemmas.{part_refused, second_refused}
-use Rattle.thompson_nfa.proofs.Fragments.FormRefusals.{fewer_states}
-use Rattle.thompson_nfa.proofs.Fragments.FormRefusals.{first_round_refused}
-use Rattle.thompson_nfa.proofs.compile.+compile.Goals as goal
 use Rattle.hir_core.proofs.ForCallers.{weight_in_concat}
+use Rattle.thompson_nfa.proofs.compile.+compile.Goals as goal
+use Rattle.thompson_nfa.proofs.compile.+compile.Answers.Alternatives as alternatives
+mod Alternatives
 
 pub zero_or_more-returns-clause-made : goal.zero_or_more-returns-clause-made
 zero_or_more-returns-clause-made t c =
@@ -48,6 +35,19 @@ pub zero_or_more-returns-clause-denotes : goal.zero_or_more-returns-clause-denot
 zero_or_more-returns-clause-denotes t c =
     star_does _ _ _ _ _ c.args.greedy _ _ _ _ c.in_ok-union.ensures c.in_ok-body.ensures.made c.in_ok-lead.ensures c.in_ok-lead-2.ensures
     c.args.x.now c.in_ok-body.ensures.denotes
+
+pub zero_or_more-returns-clause-weighs : goal.zero_or_more-returns-clause-weighs
+zero_or_more-returns-clause-weighs t c = takes_wider _ _ _ _ _ _ _
+    (star_takes _ _ _ _ _ _ _ _ _ _ _ c.args.greedy c.in_ok-union.ensures c.in_ok-body.ensures.made c.in_ok-body.ensures.weighs
+    c.in_ok-lead.ensures c.in_ok-lead-2.ensures)
+    (omega (
+      arith,
+      loop_is _ (tree_least c.args.how.which c.args.x.now) (sym c.reads-some.ensures ∙ c.if-not-some.false),
+    ))
+    (omega (
+      arith,
+      loop_is _ (tree_most c.args.how.which c.args.how.shrink c.args.x.now) (sym c.reads-some.ensures ∙ c.if-not-some.false),
+    ))
 
 pub zero_or_more_of_empty-returns-clause-made : goal.zero_or_more_of_empty-returns-clause-made
 zero_or_more_of_empty-returns-clause-made t c =
@@ -61,6 +61,12 @@ zero_or_more_of_empty-returns-clause-denotes t c =
     c.in_ok-lead-2.ensures c.in_ok-question.ensures c.in_ok-empty.ensures
     c.in_ok-lead-3.ensures c.in_ok-lead-4.ensures c.in_ok-lead-5.ensures c.args.x.now c.in_ok-body.ensures.denotes
 
+pub zero_or_more_of_empty-returns-clause-weighs : goal.zero_or_more_of_empty-returns-clause-weighs
+zero_or_more_of_empty-returns-clause-weighs t c =
+    loop_takes _ _ _ _ _ _ _ _ _ _ _ _ _ _ _ _ _ c.args.greedy c.in_ok-body.ensures.made c.in_ok-body.ensures.weighs c.in_ok-plus.ensures
+    c.in_ok-lead.ensures c.in_ok-lead-2.ensures c.in_ok-question.ensures c.in_ok-empty.ensures c.in_ok-lead-3.ensures
+    c.in_ok-lead-4.ensures _ c.in_ok-lead-5.ensures
+
 pub one_or_more-returns-clause-made : goal.one_or_more-returns-clause-made
 one_or_more-returns-clause-made t c = plus_made _ _ _ _ _ c.args.greedy _ _ _ _ c.in_ok-body.ensures.made c.in_ok-union.ensures
     c.in_ok-lead.ensures c.in_ok-lead-2.ensures
@@ -69,6 +75,10 @@ pub one_or_more-returns-clause-denotes : goal.one_or_more-returns-clause-denotes
 one_or_more-returns-clause-denotes t c =
     plus_does _ _ _ _ _ c.args.greedy _ _ _ _ c.in_ok-body.ensures.made c.in_ok-union.ensures c.in_ok-lead.ensures c.in_ok-lead-2.ensures
     c.args.x.now c.in_ok-body.ensures.denotes
+
+pub one_or_more-returns-clause-weighs : goal.one_or_more-returns-clause-weighs
+one_or_more-returns-clause-weighs t c = plus_takes _ _ _ _ _ _ _ _ _ _ _ c.args.greedy c.in_ok-body.ensures.made
+    c.in_ok-body.ensures.weighs c.in_ok-union.ensures c.in_ok-lead.ensures c.in_ok-lead-2.ensures
 
 pub option-returns-clause-made : goal.option-returns-clause-made
 option-returns-clause-made t c =
@@ -79,6 +89,10 @@ pub option-returns-clause-denotes : goal.option-returns-clause-denotes
 option-returns-clause-denotes t c =
     option_does _ _ _ _ _ c.args.greedy _ _ _ _ _ c.in_ok-union.ensures c.in_ok-body.ensures.made c.in_ok-lead.ensures
     c.in_ok-lead-2.ensures c.requires.there c.args.x.now c.in_ok-body.ensures.denotes
+
+pub option-returns-clause-weighs : goal.option-returns-clause-weighs
+option-returns-clause-weighs t c = option_takes _ _ _ _ _ _ _ _ _ _ _ c.args.greedy _ c.in_ok-union.ensures c.in_ok-body.ensures.made
+    c.in_ok-body.ensures.weighs c.in_ok-lead.ensures c.in_ok-lead-2.ensures
 
 pub copies-loop-init : goal.copies-loop-init
 copies-loop-init t c = (
@@ -98,6 +112,21 @@ pub copies-returns-clause-denotes : goal.copies-returns-clause-denotes
 copies-returns-clause-denotes t c = copies_done c.args.how _ _ _ _ c.loop.counter c.args.n c.args.x.now c.loop.invariant.0
     c.loop.invariant.1 c.loop-test.false
 
+pub copies-returns-in_err-first : goal.copies-returns-in_err-first
+copies-returns-in_err-first t c = only_fails _ _ _ _ _ _ _ c.in_err-first.field-0.0 c.from_residual.ensures.1
+    (first_copy_fails c.args.how _ _ c.args.n c.args.x.now _ c.requires.some c.in_err-first.ensures.refused
+    c.in_err-first.ensures.passed)
+
+pub copies-returns-in_err-next : goal.copies-returns-in_err-next
+copies-returns-in_err-next t c = only_fails _ _ _ _ _ _ _ c.in_err-next.field-0.0 c.from_residual-in_err-next.ensures.1
+    (next_copy_fails c.args.how _ _ _ _ c.loop.counter c.args.n c.args.x.now c.loop.invariant.0 c.loop-test.true _ _
+    c.in_err-next.ensures.refused c.in_err-next.ensures.passed)
+
+pub copies-returns-in_err-lead : goal.copies-returns-in_err-lead
+copies-returns-in_err-lead t c = only_fails _ _ _ _ _ _ _ c.in_err-lead.field-0.0 c.from_residual-in_err-lead.ensures.1
+    (copy_lead_fails c.args.how _ _ _ _ c.loop.counter c.args.n c.args.x.now c.loop.invariant.0 c.loop-test.true _ _ _ _ _
+    c.in_ok-next.ensures.made c.in_ok-next.ensures.weighs c.in_err-lead.ensures)
+
 pub at_least-returns-clause-made : goal.at_least-returns-clause-made
 at_least-returns-clause-made t c =
     at_least_made c.args.how.shrink _ _ _ _ _ _ _ _ c.args.min c.args.greedy c.args.x.now
@@ -114,6 +143,22 @@ at_least-returns-clause-groups t c =
     ap (λ (b : Assembly). b.groups) c.in_ok-lead.ensures.settings
     ∙ groups_again c.args.how.which _ _ c.args.x.now _ _ _ (ap (λ (b : Assembly). length b.starts)
     c.in_ok-prefix.ensures.made.fragment.grows.settings) c.in_ok-prefix.ensures.groups c.in_ok-last.ensures.groups
+
+pub at_least-returns-clause-weighs : goal.at_least-returns-clause-weighs
+at_least-returns-clause-weighs t c = takes_wider _ _ _ _ _ _ _
+    (join_takes _ _ _ _ _ _ _ _ _ _ _ c.in_ok-prefix.ensures.weighs c.in_ok-prefix.ensures.made.fragment.end_there
+    c.in_ok-last.ensures.made c.in_ok-last.ensures.weighs _ c.in_ok-lead.ensures)
+    (omega (
+      arith,
+      some_owed c.args.min (is_above_zero (minimum_len c.args.x.now)) (tree_least c.args.how.which c.args.x.now) (omega arith),
+      copies_before c.args.min (tree_least c.args.how.which c.args.x.now) (omega arith),
+    ))
+    (omega (
+      arith,
+      some_owed c.args.min (is_above_zero (minimum_len c.args.x.now)) (tree_most c.args.how.which c.args.how.shrink c.args.x.now) (omega
+          arith),
+      copies_before c.args.min (tree_most c.args.how.which c.args.how.shrink c.args.x.now) (omega arith),
+    ))
 
 pub up_to-loop-init : goal.up_to-loop-init
 up_to-loop-init t c =
@@ -135,6 +180,25 @@ pub up_to-returns-clause-denotes : goal.up_to-returns-clause-denotes
 up_to-returns-clause-denotes t c = rounds_does c.args.how _ _ _ _ _ c.loop.counter 0 c.args.most _ c.args.greedy c.args.x.now
     c.loop.invariant _ c.in_ok-lead-2.ensures c.loop-test.false
 
+pub up_to-returns-in_err-first : goal.up_to-returns-in_err-first
+up_to-returns-in_err-first t c = only_fails _ _ _ _ _ _ _ c.in_err-first.field-0.0 c.from_residual-in_err-first.ensures.1
+    (first_round_fails c.args.how _ _ _ _ c.args.most c.args.x.now _ c.requires.some c.in_ok-exit.ensures
+    c.in_err-first.ensures.refused c.in_err-first.ensures.passed)
+
+pub up_to-returns-in_err-next : goal.up_to-returns-in_err-next
+up_to-returns-in_err-next t c = only_fails _ _ _ _ _ _ _ c.in_err-next.field-0.0 c.from_residual-in_err-next.ensures.1
+    (next_round_fails c.args.how _ _ _ _ _ c.loop.counter 0 c.args.most _ c.args.greedy c.args.x.now c.loop.invariant _ _
+    c.loop-test.true c.in_err-next.ensures.refused c.in_err-next.ensures.passed)
+
+pub up_to-returns-in_err-lead : goal.up_to-returns-in_err-lead
+up_to-returns-in_err-lead t c = only_fails _ _ _ _ _ _ _ c.in_err-lead.field-0.0 c.from_residual-in_err-lead.ensures.1
+    (round_lead_fails c.args.how _ _ _ _ _ c.loop.counter 0 c.args.most _ c.args.greedy c.args.x.now c.loop.invariant _ _ _ _ _
+    c.loop-test.true c.in_ok-next.ensures.made c.in_ok-next.ensures.weighs c.in_err-lead.ensures)
+
+pub up_to-returns-clause-weighs : goal.up_to-returns-clause-weighs
+up_to-returns-clause-weighs t c = rounds_take c.args.how _ _ _ _ _ c.loop.counter 0 c.args.most _ c.args.greedy c.args.x.now
+    c.loop.invariant _ c.in_ok-lead-2.ensures c.loop-test.false
+
 pub owed_and_more-loop-init : goal.owed_and_more-loop-init
 owed_and_more-loop-init t c =
     rounds_owed c.args.how _ _ _ _ _ _ c.args.min c.args.most c.args.greedy c.args.x.now c.requires.ordered c.in_ok-prefix.ensures.made
@@ -153,6 +217,15 @@ owed_and_more-returns-clause-made t c = rounds_made c.args.how _ _ _ _ _ c.loop.
 pub owed_and_more-returns-clause-denotes : goal.owed_and_more-returns-clause-denotes
 owed_and_more-returns-clause-denotes t c = rounds_does c.args.how _ _ _ _ _ c.loop.counter c.args.min c.args.most _ c.args.greedy
     c.args.x.now c.loop.invariant _ c.in_ok-lead-2.ensures c.loop-test.false
+
+pub owed_and_more-returns-clause-weighs : goal.owed_and_more-returns-clause-weighs
+owed_and_more-returns-clause-weighs t c = rounds_take c.args.how _ _ _ _ _ c.loop.counter c.args.min c.args.most _ c.args.greedy
+    c.args.x.now c.loop.invariant _ c.in_ok-lead-2.ensures c.loop-test.false
+
+pub owed_and_more-returns-in_err-lead-clause-passed : goal.owed_and_more-returns-in_err-lead-clause-passed
+owed_and_more-returns-in_err-lead-clause-passed t c = handed _ _ c.in_err-lead.field-0.0 c.from_residual-in_err-lead.ensures.1
+    (round_lead_fails c.args.how _ _ _ _ _ c.loop.counter c.args.min c.args.most _ c.args.greedy c.args.x.now c.loop.invariant _ _ _ _ _
+    c.loop-test.true c.in_ok-next.ensures.made c.in_ok-next.ensures.weighs c.in_err-lead.ensures).1
 
 pub between-returns-then-most-eq0-clause-denotes : goal.between-returns-then-most-eq0-clause-denotes
 between-returns-then-most-eq0-clause-denotes t c = stopped_does _ _ _ _ c.args.min c.args.most c.args.greedy c.args.x.now (omega arith)
@@ -183,6 +256,13 @@ captured-returns-clause-denotes t c =
     ∙ ap (λ (b : Assembly). length b.starts) c.in_ok-start.ensures.added.grows.settings)
     c.in_ok-lead.ensures c.in_ok-lead-2.ensures _ c.args.x.now c.in_ok-body-2.ensures.denotes
 
+pub captured-returns-clause-weighs : goal.captured-returns-clause-weighs
+captured-returns-clause-weighs t c = takes_wider _ _ _ _ _ _ _
+    (capture_takes _ _ _ _ _ _ _ _ _ _ _ _ _ _ _ _ _ _ _ c.in_ok-start.ensures.added c.in_ok-body-2.ensures.made
+    c.in_ok-body-2.ensures.weighs c.in_ok-end.ensures.added c.in_ok-lead.ensures _ c.in_ok-lead-2.ensures)
+    (omega (arith, group_kept c.args.how.which c.args.index (sym c.keeps.ensures ∙ c.if-not-keeps.false)))
+    (omega (arith, group_kept c.args.how.which c.args.index (sym c.keeps.ensures ∙ c.if-not-keeps.false)))
+
 pub concatenation-returns-then-subs-eq0-clause-denotes : goal.concatenation-returns-then-subs-eq0-clause-denotes
 concatenation-returns-then-subs-eq0-clause-denotes t c = does_same _ _ _ _ _ _
     (none_is_concat c.args.subs.now (omega arith)) c.in_ok-none.ensures.denotes
@@ -211,91 +291,38 @@ concatenation-compile-requires-in-loop-i t c = (
 )
 
 pub concatenation-loop-i-init : goal.concatenation-loop-i-init
-concatenation-loop-i-init t c =
-    parts_first c.args.how _ _ _ _ c.index-subs-begin.result c.args.subs.now c.requires (omega arith)
-    (c.index-subs-begin.is ∙ ap (λ k. get_or c.args.subs.now k c.index-subs-begin.result)
-    (c.turned_position-begin.ensures.value ∙ ap (λ back. turned_position back 0 (length c.args.subs.now)) c.get_reverse-reverse.ensures))
+concatenation-loop-i-init t c = parts_first c.args.how _ _ _ _ c.index-subs-begin.result c.args.subs.now c.requires (omega arith)
+    (turned_part c.args.subs.now _ c.turned_position-begin.result 0 _ _ c.index-subs-begin.is
+    c.turned_position-begin.ensures.value c.get_reverse-reverse.ensures)
     c.in_ok-first.ensures.made c.in_ok-first.ensures.denotes c.in_ok-first.ensures.groups c.in_ok-first.ensures.weighs
 
 pub concatenation-loop-i-preserved : goal.concatenation-loop-i-preserved
-concatenation-loop-i-preserved t c =
-    parts_then c.args.how _ _ _ _ _ _ _ _ c.loop-i.i c.index-subs-place.result c.args.subs.now c.requires c.loop-i-test.true
-    (c.index-subs-place.is ∙ ap (λ k. get_or c.args.subs.now k c.index-subs-place.result)
-    (c.turned_position-place.ensures.value ∙ ap (λ back. turned_position back c.loop-i.i (length c.args.subs.now))
-    c.get_reverse-reverse.ensures))
+concatenation-loop-i-preserved t c = parts_then c.args.how _ _ _ _ _ _ _ _ c.loop-i.i c.index-subs-place.result c.args.subs.now c.requires c.loop-i-test.true
+    (turned_part c.args.subs.now _ c.turned_position-place.result c.loop-i.i _ _ c.index-subs-place.is
+    c.turned_position-place.ensures.value c.get_reverse-reverse.ensures)
     c.loop-i.invariant c.in_ok-next.ensures.made c.in_ok-next.ensures.denotes c.in_ok-next.ensures.groups c.in_ok-lead.ensures
     c.in_ok-next.ensures.weighs
 
 pub concatenation-returns-in_err-first : goal.concatenation-returns-in_err-first
-concatenation-returns-in_err-first t c =
-    let is = c.from_residual-in_err-first.ensures.1 in
-    record {
-      made = err_only _ _ c.in_err-first.field-0.0 is;
-      denotes = err_only _ _ c.in_err-first.field-0.0 is;
-      weighs = err_only _ _ c.in_err-first.field-0.0 is;
-      groups = err_only _ _ c.in_err-first.field-0.0 is;
-      refused = handed _ _ c.in_err-first.field-0.0 is (first_part_refused c.args.how _ _ c.index-subs-begin.result c.args.subs.now _
-          (omega arith)
-          (c.index-subs-begin.is ∙ ap (λ k. get_or c.args.subs.now k c.index-subs-begin.result)
-          (c.turned_position-begin.ensures.value ∙ ap (λ back. turned_position back 0 (length c.args.subs.now))
-          c.get_reverse-reverse.ensures))
-          c.in_err-first.ensures.refused);
-      passed = handed _ _ c.in_err-first.field-0.0 is (omega (
-        arith,
-        first_part_bytes (at_most c.args.how.shrink) c.args.how.which _ c.index-subs-begin.result c.args.subs.now (omega arith)
-            (c.index-subs-begin.is ∙ ap (λ k. get_or c.args.subs.now k c.index-subs-begin.result)
-            (c.turned_position-begin.ensures.value ∙ ap (λ back. turned_position back 0 (length c.args.subs.now))
-            c.get_reverse-reverse.ensures)),
-        c.in_err-first.ensures.passed,
-      ));
-    }
+concatenation-returns-in_err-first t c = only_fails _ _ _ _ _ _ _ c.in_err-first.field-0.0 c.from_residual-in_err-first.ensures.1
+    (first_part_fails c.args.how _ _ c.index-subs-begin.result c.args.subs.now _ (omega arith)
+    (turned_part c.args.subs.now _ c.turned_position-begin.result 0 _ _ c.index-subs-begin.is
+    c.turned_position-begin.ensures.value c.get_reverse-reverse.ensures)
+    c.in_err-first.ensures.refused c.in_err-first.ensures.passed)
 
 pub concatenation-returns-in_err-next : goal.concatenation-returns-in_err-next
-concatenation-returns-in_err-next t c =
-    let is = c.from_residual-in_err-next.ensures.1 in
-    record {
-      made = err_only _ _ c.in_err-next.field-0.0 is;
-      denotes = err_only _ _ c.in_err-next.field-0.0 is;
-      weighs = err_only _ _ c.in_err-next.field-0.0 is;
-      groups = err_only _ _ c.in_err-next.field-0.0 is;
-      refused = handed _ _ c.in_err-next.field-0.0 is (parts_refused c.args.how _ _ _ _ c.loop-i.i c.args.subs.now c.loop-i.invariant _
-          c.index-subs-place.result _ c.loop-i-test.true
-          (c.index-subs-place.is ∙ ap (λ k. get_or c.args.subs.now k c.index-subs-place.result)
-          (c.turned_position-place.ensures.value ∙ ap (λ back. turned_position back c.loop-i.i (length c.args.subs.now))
-          c.get_reverse-reverse.ensures))
-          c.in_err-next.ensures.refused);
-      passed = handed _ _ c.in_err-next.field-0.0 is (omega (
-        arith,
-        parts_left c.args.how _ _ _ _ c.loop-i.i c.args.subs.now c.loop-i.invariant c.index-subs-place.result c.loop-i-test.true
-            (c.index-subs-place.is ∙ ap (λ k. get_or c.args.subs.now k c.index-subs-place.result)
-            (c.turned_position-place.ensures.value ∙ ap (λ back. turned_position back c.loop-i.i (length c.args.subs.now))
-            c.get_reverse-reverse.ensures)),
-        c.in_err-next.ensures.passed,
-      ));
-    }
+concatenation-returns-in_err-next t c = only_fails _ _ _ _ _ _ _ c.in_err-next.field-0.0 c.from_residual-in_err-next.ensures.1
+    (next_part_fails c.args.how _ _ _ _ c.loop-i.i c.args.subs.now c.loop-i.invariant c.index-subs-place.result c.loop-i-test.true
+    (turned_part c.args.subs.now _ c.turned_position-place.result c.loop-i.i _ _ c.index-subs-place.is
+    c.turned_position-place.ensures.value c.get_reverse-reverse.ensures)
+    _ _ c.in_err-next.ensures.refused c.in_err-next.ensures.passed)
 
 pub concatenation-returns-in_err-lead : goal.concatenation-returns-in_err-lead
-concatenation-returns-in_err-lead t c =
-    let is = c.from_residual-in_err-lead.ensures.1 in
-    record {
-      made = err_only _ _ c.in_err-lead.field-0.0 is;
-      denotes = err_only _ _ c.in_err-lead.field-0.0 is;
-      weighs = err_only _ _ c.in_err-lead.field-0.0 is;
-      groups = err_only _ _ c.in_err-lead.field-0.0 is;
-      refused = handed _ _ c.in_err-lead.field-0.0 is (parts_lead_refused c.args.how _ _ _ _ c.loop-i.i c.args.subs.now c.loop-i.invariant
-          _ _ _ _ c.index-subs-place.result _
-          c.loop-i-test.true
-          (c.index-subs-place.is ∙ ap (λ k. get_or c.args.subs.now k c.index-subs-place.result)
-          (c.turned_position-place.ensures.value ∙ ap (λ back. turned_position back c.loop-i.i (length c.args.subs.now))
-          c.get_reverse-reverse.ensures))
-          c.in_ok-next.ensures.made c.in_err-lead.ensures.stays);
-      passed = handed _ _ c.in_err-lead.field-0.0 is (parts_lead_passed c.args.how _ _ _ _ c.loop-i.i c.args.subs.now
-          c.loop-i.invariant _ _ _ _ _ c.index-subs-place.result _ c.loop-i-test.true
-          (c.index-subs-place.is ∙ ap (λ k. get_or c.args.subs.now k c.index-subs-place.result)
-          (c.turned_position-place.ensures.value ∙ ap (λ back. turned_position back c.loop-i.i (length c.args.subs.now))
-          c.get_reverse-reverse.ensures))
-          c.in_ok-next.ensures.made c.in_ok-next.ensures.weighs c.in_err-lead.ensures);
-    }
+concatenation-returns-in_err-lead t c = only_fails _ _ _ _ _ _ _ c.in_err-lead.field-0.0 c.from_residual-in_err-lead.ensures.1
+    (part_lead_fails c.args.how _ _ _ _ c.loop-i.i c.args.subs.now c.loop-i.invariant c.index-subs-place.result c.loop-i-test.true
+    (turned_part c.args.subs.now _ c.turned_position-place.result c.loop-i.i _ _ c.index-subs-place.is
+    c.turned_position-place.ensures.value c.get_reverse-reverse.ensures)
+    _ _ _ _ _ c.in_ok-next.ensures.made c.in_ok-next.ensures.weighs c.in_err-lead.ensures)
 
 pub concatenation-returns-clause-made : goal.concatenation-returns-clause-made
 concatenation-returns-clause-made t c =
@@ -305,527 +332,75 @@ pub concatenation-returns-clause-denotes : goal.concatenation-returns-clause-den
 concatenation-returns-clause-denotes t c =
     parts_does c.args.how _ _ _ _ c.loop-i.i c.args.subs.now c.loop-i.invariant c.loop-i-test.false
 
-pub alternatives-returns-then-all_literals-clause-made : goal.alternatives-returns-then-all_literals-clause-made
-alternatives-returns-then-all_literals-clause-made t c =
-    literals_made c.args.how.shrink _ _ _ _ c.args.subs.now (sym c.all_literals.ensures
-    ∙ c.if-all_literals.true) c.in_ok-literals.ensures.made
-
-pub alternatives-returns-then-all_literals-clause-groups :
-    goal.alternatives-returns-then-all_literals-clause-groups
-alternatives-returns-then-all_literals-clause-groups t c =
-    literals_noted c.args.how.which _ c.args.subs.now _ _ (sym c.all_literals.ensures
-    ∙ c.if-all_literals.true) c.in_ok-literals.ensures.groups
-
-pub alternatives-returns-in_err-literals : goal.alternatives-returns-in_err-literals
-alternatives-returns-in_err-literals t c =
-    let is = c.from_residual-in_err-literals.ensures.1 in
-    record {
-      made = err_only _ _ c.in_err-literals.field-0.0 is;
-      denotes = err_only _ _ c.in_err-literals.field-0.0 is;
-      weighs = err_only _ _ c.in_err-literals.field-0.0 is;
-      groups = err_only _ _ c.in_err-literals.field-0.0 is;
-      refused = handed _ _ c.in_err-literals.field-0.0 is (literals_refused c.args.how.which c.args.how.shrink _ _ c.args.subs.now _ (sym
-          c.all_literals.ensures
-          ∙ c.if-all_literals.true) c.in_err-literals.ensures.refused);
-      passed = handed _ _ c.in_err-literals.field-0.0 is (omega (
-        arith,
-        bytes_of_literals (at_most c.args.how.shrink) c.args.how.which c.args.subs.now (sym c.all_literals.ensures ∙
-            c.if-all_literals.true),
-        c.in_err-literals.ensures.passed,
-      ));
-    }
-
-pub alternatives-returns-clause-made : goal.alternatives-returns-clause-made
-alternatives-returns-clause-made t c =
-    cases_made c.args.how _ _ _ _ c.loop-i.i c.args.subs.now c.loop-i.invariant
-
-pub alternatives-returns-clause-denotes : goal.alternatives-returns-clause-denotes
-alternatives-returns-clause-denotes t c =
-    cases_does c.args.how _ _ _ _ c.loop-i.i c.args.subs.now c.loop-i.invariant c.loop-i-test.false
-
-pub alternatives-returns-then-subs-eq1-clause-denotes : goal.alternatives-returns-then-subs-eq1-clause-denotes
-alternatives-returns-then-subs-eq1-clause-denotes t c =
-    single_does _ _ _ _ c.index-subs-0.result c.args.subs.now (omega arith) c.index-subs-0.is c.in_ok-one.ensures.denotes
-
-pub alternatives-returns-in_err-union : goal.alternatives-returns-in_err-union
-alternatives-returns-in_err-union t c =
-    let is = c.from_residual-in_err-union.ensures.1 in
-    record {
-      made = err_only _ _ c.in_err-union.field-0.0 is;
-      denotes = err_only _ _ c.in_err-union.field-0.0 is;
-      weighs = err_only _ _ c.in_err-union.field-0.0 is;
-      groups = err_only _ _ c.in_err-union.field-0.0 is;
-      refused = handed _ _ c.in_err-union.field-0.0 is (union_refused c.args.how _ _ _ _ _ _ _ c.index-subs-0-2.result
-          c.index-subs-1.result c.args.subs.now
-          (omega arith) c.index-subs-0-2.is c.index-subs-1.is
-          c.in_ok-first.ensures.made c.in_ok-second.ensures.made _ _ c.in_err-union.ensures);
-      passed = handed _ _ c.in_err-union.field-0.0 is (omega (
-        arith,
-        two_bytes (at_most c.args.how.shrink) c.args.how.which c.args.subs.now c.index-subs-0-2.result c.index-subs-1.result (omega
-            arith) c.index-subs-0-2.is
-            c.index-subs-1.is,
-        bytes_of_alternation (at_most c.args.how.shrink) c.args.how.which c.args.subs.now (omega arith) (sym c.all_literals.ensures ∙
-            c.if-all_literals.false),
-        c.in_ok-first.ensures.weighs.most,
-        c.in_ok-second.ensures.weighs.most,
-        c.in_err-union.ensures.passed,
-      ));
-    }
-
-pub alternatives-returns-in_err-end : goal.alternatives-returns-in_err-end
-alternatives-returns-in_err-end t c =
-    let is = c.from_residual-in_err-end.ensures.1 in
-    record {
-      made = err_only _ _ c.in_err-end.field-0.0 is;
-      denotes = err_only _ _ c.in_err-end.field-0.0 is;
-      weighs = err_only _ _ c.in_err-end.field-0.0 is;
-      groups = err_only _ _ c.in_err-end.field-0.0 is;
-      refused = handed _ _ c.in_err-end.field-0.0 is (end_refused c.args.how _ _ _ _ _ _ _ c.index-subs-0-2.result c.index-subs-1.result
-          c.args.subs.now
-          (omega arith) c.index-subs-0-2.is c.index-subs-1.is
-          c.in_ok-first.ensures.made c.in_ok-second.ensures.made _ _ _ _ c.in_ok-union.ensures c.in_err-end.ensures);
-      passed = handed _ _ c.in_err-end.field-0.0 is (omega (
-        arith,
-        two_bytes (at_most c.args.how.shrink) c.args.how.which c.args.subs.now c.index-subs-0-2.result c.index-subs-1.result (omega
-            arith) c.index-subs-0-2.is
-            c.index-subs-1.is,
-        bytes_of_alternation (at_most c.args.how.shrink) c.args.how.which c.args.subs.now (omega arith) (sym c.all_literals.ensures ∙
-            c.if-all_literals.false),
-        c.in_ok-first.ensures.weighs.most,
-        c.in_ok-second.ensures.weighs.most,
-        c.in_ok-union.ensures.bytes,
-        c.in_err-end.ensures.passed,
-      ));
-    }
-
-pub alternatives-returns-in_err-lead : goal.alternatives-returns-in_err-lead
-alternatives-returns-in_err-lead t c =
-    let is = c.from_residual-in_err-lead.ensures.1 in
-    record {
-      made = err_only _ _ c.in_err-lead.field-0.0 is;
-      denotes = err_only _ _ c.in_err-lead.field-0.0 is;
-      weighs = err_only _ _ c.in_err-lead.field-0.0 is;
-      groups = err_only _ _ c.in_err-lead.field-0.0 is;
-      refused = handed _ _ c.in_err-lead.field-0.0 is (first_lead_refused c.args.how _ _ _ _ _ _ _ c.index-subs-0-2.result
-          c.index-subs-1.result c.args.subs.now
-          (omega arith) c.index-subs-0-2.is c.index-subs-1.is
-          c.in_ok-first.ensures.made c.in_ok-second.ensures.made _ _ _ _ c.in_ok-union.ensures c.in_ok-end.ensures _ _
-          c.in_err-lead.ensures.stays);
-      passed = handed _ _ c.in_err-lead.field-0.0 is (omega (
-        arith,
-        two_bytes (at_most c.args.how.shrink) c.args.how.which c.args.subs.now c.index-subs-0-2.result c.index-subs-1.result (omega
-            arith) c.index-subs-0-2.is
-            c.index-subs-1.is,
-        bytes_of_alternation (at_most c.args.how.shrink) c.args.how.which c.args.subs.now (omega arith) (sym c.all_literals.ensures ∙
-            c.if-all_literals.false),
-        c.in_ok-first.ensures.weighs.most,
-        c.in_ok-second.ensures.weighs.most,
-        c.in_ok-union.ensures.bytes,
-        c.in_ok-end.ensures.bytes,
-        c.in_err-lead.ensures.stays.passed,
-      ));
-    }
-
-pub alternatives-returns-in_err-lead-2 : goal.alternatives-returns-in_err-lead-2
-alternatives-returns-in_err-lead-2 t c =
-    let is = c.from_residual-in_err-lead-2.ensures.1 in
-    record {
-      made = err_only _ _ c.in_err-lead-2.field-0.0 is;
-      denotes = err_only _ _ c.in_err-lead-2.field-0.0 is;
-      weighs = err_only _ _ c.in_err-lead-2.field-0.0 is;
-      groups = err_only _ _ c.in_err-lead-2.field-0.0 is;
-      refused = handed _ _ c.in_err-lead-2.field-0.0 is (second_lead_refused c.args.how _ _ _ _ _ _ _ c.index-subs-0-2.result
-          c.index-subs-1.result c.args.subs.now
-          (omega arith) c.index-subs-0-2.is c.index-subs-1.is
-          c.in_ok-first.ensures.made c.in_ok-second.ensures.made _ _ _ _ c.in_ok-union.ensures c.in_ok-end.ensures _ _ _
-          c.in_ok-lead.ensures
-          c.in_err-lead-2.ensures.stays);
-      passed = handed _ _ c.in_err-lead-2.field-0.0 is (omega (
-        arith,
-        two_bytes (at_most c.args.how.shrink) c.args.how.which c.args.subs.now c.index-subs-0-2.result c.index-subs-1.result (omega
-            arith) c.index-subs-0-2.is
-            c.index-subs-1.is,
-        bytes_of_alternation (at_most c.args.how.shrink) c.args.how.which c.args.subs.now (omega arith) (sym c.all_literals.ensures ∙
-            c.if-all_literals.false),
-        second_lead_passed _ _ _ _ _ _ _ _ _ _ _ _ _ _ _ _ _ _ c.in_ok-first.ensures.made c.in_ok-first.ensures.weighs
-            c.in_ok-second.ensures.made
-            c.in_ok-second.ensures.weighs c.in_ok-union.ensures c.in_ok-end.ensures c.in_ok-lead.ensures _ _
-            c.in_err-lead-2.ensures,
-      ));
-    }
-
-pub alternatives-returns-in_err-lead-3 : goal.alternatives-returns-in_err-lead-3
-alternatives-returns-in_err-lead-3 t c =
-    let is = c.from_residual-in_err-lead-3.ensures.1 in
-    record {
-      made = err_only _ _ c.in_err-lead-3.field-0.0 is;
-      denotes = err_only _ _ c.in_err-lead-3.field-0.0 is;
-      weighs = err_only _ _ c.in_err-lead-3.field-0.0 is;
-      groups = err_only _ _ c.in_err-lead-3.field-0.0 is;
-      refused = handed _ _ c.in_err-lead-3.field-0.0 is (third_lead_refused c.args.how _ _ _ _ _ _ _ c.index-subs-0-2.result
-          c.index-subs-1.result c.args.subs.now
-          (omega arith) c.index-subs-0-2.is c.index-subs-1.is
-          c.in_ok-first.ensures.made c.in_ok-second.ensures.made _ _ _ _ c.in_ok-union.ensures c.in_ok-end.ensures _ _ _ _
-          c.in_ok-lead.ensures
-          c.in_ok-lead-2.ensures c.in_err-lead-3.ensures.stays);
-      passed = handed _ _ c.in_err-lead-3.field-0.0 is (omega (
-        arith,
-        two_bytes (at_most c.args.how.shrink) c.args.how.which c.args.subs.now c.index-subs-0-2.result c.index-subs-1.result (omega
-            arith) c.index-subs-0-2.is
-            c.index-subs-1.is,
-        bytes_of_alternation (at_most c.args.how.shrink) c.args.how.which c.args.subs.now (omega arith) (sym c.all_literals.ensures ∙
-            c.if-all_literals.false),
-        third_lead_passed _ _ _ _ _ _ _ _ _ _ _ _ _ _ _ _ _ _ c.in_ok-first.ensures.made c.in_ok-first.ensures.weighs
-            c.in_ok-second.ensures.made
-            c.in_ok-second.ensures.weighs c.in_ok-union.ensures c.in_ok-end.ensures c.in_ok-lead.ensures _
-            c.in_ok-lead-2.ensures _ _ c.in_err-lead-3.ensures,
-      ));
-    }
-
-pub alternatives-returns-in_err-lead-4 : goal.alternatives-returns-in_err-lead-4
-alternatives-returns-in_err-lead-4 t c =
-    let is = c.from_residual-in_err-lead-4.ensures.1 in
-    record {
-      made = err_only _ _ c.in_err-lead-4.field-0.0 is;
-      denotes = err_only _ _ c.in_err-lead-4.field-0.0 is;
-      weighs = err_only _ _ c.in_err-lead-4.field-0.0 is;
-      groups = err_only _ _ c.in_err-lead-4.field-0.0 is;
-      refused = handed _ _ c.in_err-lead-4.field-0.0 is (fourth_lead_refused c.args.how _ _ _ _ _ _ _ c.index-subs-0-2.result
-          c.index-subs-1.result c.args.subs.now
-          (omega arith) c.index-subs-0-2.is c.index-subs-1.is
-          c.in_ok-first.ensures.made c.in_ok-second.ensures.made _ _ _ _ c.in_ok-union.ensures c.in_ok-end.ensures _ _ _ _ _
-          c.in_ok-lead.ensures
-          c.in_ok-lead-2.ensures c.in_ok-lead-3.ensures c.in_err-lead-4.ensures.stays);
-      passed = handed _ _ c.in_err-lead-4.field-0.0 is (omega (
-        arith,
-        two_bytes (at_most c.args.how.shrink) c.args.how.which c.args.subs.now c.index-subs-0-2.result c.index-subs-1.result (omega
-            arith) c.index-subs-0-2.is
-            c.index-subs-1.is,
-        bytes_of_alternation (at_most c.args.how.shrink) c.args.how.which c.args.subs.now (omega arith) (sym c.all_literals.ensures ∙
-            c.if-all_literals.false),
-        fourth_lead_passed _ _ _ _ _ _ _ _ _ _ _ _ _ _ _ _ _ _ c.in_ok-first.ensures.made c.in_ok-first.ensures.weighs
-            c.in_ok-second.ensures.made
-            c.in_ok-second.ensures.weighs c.in_ok-union.ensures c.in_ok-end.ensures c.in_ok-lead.ensures _
-            c.in_ok-lead-2.ensures _ c.in_ok-lead-3.ensures _ _ c.in_err-lead-4.ensures,
-      ));
-    }
-
-pub alternatives-loop-i-init : goal.alternatives-loop-i-init
-alternatives-loop-i-init t c =
-    cases_open c.args.how _ _ _ _ _ _ _ c.index-subs-0-2.result c.index-subs-1.result c.args.subs.now
-    (omega arith) c.index-subs-0-2.is c.index-subs-1.is
-    c.in_ok-first.ensures.made c.in_ok-second.ensures.made _ _ _ _ _ _ _ _ c.in_ok-union.ensures c.in_ok-end.ensures c.in_ok-lead.ensures
-    c.in_ok-lead-2.ensures
-    c.in_ok-lead-3.ensures c.in_ok-lead-4.ensures c.in_ok-first.ensures.denotes c.in_ok-second.ensures.denotes c.in_ok-first.ensures.groups
-    c.in_ok-second.ensures.groups c.in_ok-first.ensures.weighs c.in_ok-second.ensures.weighs
-
-pub alternatives-loop-i-preserved : goal.alternatives-loop-i-preserved
-alternatives-loop-i-preserved t c =
-    cases_then c.args.how _ _ _ _ c.loop-i.i c.args.subs.now c.loop-i.invariant _ _ _ _ _ c.index-subs-i.result c.loop-i-test.true
-    c.index-subs-i.is c.in_ok-next.ensures.made c.in_ok-next.ensures.denotes
-    c.in_ok-next.ensures.groups c.in_ok-lead-5.ensures c.in_ok-lead-6.ensures c.in_ok-next.ensures.weighs
-
-pub alternatives-compile-requires-in-loop-i : goal.alternatives-compile-requires-in-loop-i
-alternatives-compile-requires-in-loop-i t c = (
-  omega (
-    arith,
-    c.decreases,
-    weight_in_alternation c.args.subs.now c.loop-i.i c.index-subs-i.result c.loop-i-test.true,
-    ap weight
-        c.index-subs-i.is,
-  ),
-  ready_later c.args.how.which _ _ c.loop-i.invariant.branches.progress.partly.grows c.requires,
-)
-
-pub alternatives-returns-in_err-next : goal.alternatives-returns-in_err-next
-alternatives-returns-in_err-next t c =
-    let is = c.from_residual-in_err-next.ensures.1 in
-    record {
-      made = err_only _ _ c.in_err-next.field-0.0 is;
-      denotes = err_only _ _ c.in_err-next.field-0.0 is;
-      weighs = err_only _ _ c.in_err-next.field-0.0 is;
-      groups = err_only _ _ c.in_err-next.field-0.0 is;
-      refused = handed _ _ c.in_err-next.field-0.0 is (cases_refused c.args.how _ _ _ _ c.loop-i.i c.args.subs.now c.loop-i.invariant _
-          c.index-subs-i.result _ c.loop-i-test.true
-          c.index-subs-i.is c.in_err-next.ensures.refused);
-      passed = handed _ _ c.in_err-next.field-0.0 is (omega (
-        arith,
-        cases_left c.args.how _ _ _ _ c.loop-i.i c.args.subs.now
-            c.loop-i.invariant (sym c.all_literals.ensures ∙ c.if-all_literals.false) c.index-subs-i.result c.loop-i-test.true (omega arith)
-            c.index-subs-i.is,
-        c.in_err-next.ensures.passed,
-      ));
-    }
-
-pub alternatives-returns-in_err-lead-5 : goal.alternatives-returns-in_err-lead-5
-alternatives-returns-in_err-lead-5 t c =
-    let is = c.from_residual-in_err-lead-5.ensures.1 in
-    record {
-      made = err_only _ _ c.in_err-lead-5.field-0.0 is;
-      denotes = err_only _ _ c.in_err-lead-5.field-0.0 is;
-      weighs = err_only _ _ c.in_err-lead-5.field-0.0 is;
-      groups = err_only _ _ c.in_err-lead-5.field-0.0 is;
-      refused = handed _ _ c.in_err-lead-5.field-0.0 is (cases_lead_refused c.args.how _ _ _ _ c.loop-i.i c.args.subs.now
-          c.loop-i.invariant _ _ _ _ c.index-subs-i.result _ c.loop-i-test.true
-          c.index-subs-i.is c.in_ok-next.ensures.made c.in_err-lead-5.ensures.stays);
-      passed = handed _ _ c.in_err-lead-5.field-0.0 is (omega (
-        arith,
-        cases_left c.args.how _ _ _ _ c.loop-i.i c.args.subs.now
-            c.loop-i.invariant (sym c.all_literals.ensures ∙ c.if-all_literals.false) c.index-subs-i.result c.loop-i-test.true (omega arith)
-            c.index-subs-i.is,
-        c.in_ok-next.ensures.weighs.most,
-        c.in_err-lead-5.ensures.stays.passed,
-      ));
-    }
-
-pub alternatives-returns-in_err-lead-6 : goal.alternatives-returns-in_err-lead-6
-alternatives-returns-in_err-lead-6 t c =
-    let is = c.from_residual-in_err-lead-6.ensures.1 in
-    record {
-      made = err_only _ _ c.in_err-lead-6.field-0.0 is;
-      denotes = err_only _ _ c.in_err-lead-6.field-0.0 is;
-      weighs = err_only _ _ c.in_err-lead-6.field-0.0 is;
-      groups = err_only _ _ c.in_err-lead-6.field-0.0 is;
-      refused = handed _ _ c.in_err-lead-6.field-0.0 is (cases_end_refused c.args.how _ _ _ _ c.loop-i.i c.args.subs.now
-          c.loop-i.invariant _ _ _ _ _ c.index-subs-i.result _ c.loop-i-test.true
-          c.index-subs-i.is c.in_ok-next.ensures.made c.in_ok-lead-5.ensures c.in_err-lead-6.ensures.stays);
-      passed = handed _ _ c.in_err-lead-6.field-0.0 is (cases_lead_passed c.args.how _ _ _ _ c.loop-i.i c.args.subs.now
-          c.loop-i.invariant (sym c.all_literals.ensures ∙ c.if-all_literals.false) c.index-subs-i.result c.loop-i-test.true (omega arith)
-          c.index-subs-i.is _ _ _ _ _ _ _ c.in_ok-next.ensures.made c.in_ok-next.ensures.weighs c.in_ok-lead-5.ensures
-          c.in_err-lead-6.ensures);
-    }
-
 pub concatenation-returns-clause-weighs : goal.concatenation-returns-clause-weighs
 concatenation-returns-clause-weighs t c = parts_weigh c.args.how _ _ _ _ c.loop-i.i c.args.subs.now c.loop-i.invariant
     c.loop-i-test.false (omega arith)
 
-pub copies-returns-in_err-first : goal.copies-returns-in_err-first
-copies-returns-in_err-first t c =
-    let is = c.from_residual.ensures.1 in
-    record {
-      made = err_only _ _ c.in_err-first.field-0.0 is;
-      denotes = err_only _ _ c.in_err-first.field-0.0 is;
-      weighs = err_only _ _ c.in_err-first.field-0.0 is;
-      groups = err_only _ _ c.in_err-first.field-0.0 is;
-      refused = handed _ _ c.in_err-first.field-0.0 is (fewer_states _ c.in_err-first.ensures.refused (omega (
-        arith,
-        one_fits 0 c.args.n
-            (room c.args.how.shrink c.args.x.now) c.requires.some,
-      )));
-      passed = handed _ _ c.in_err-first.field-0.0 is (omega (
-        arith,
-        one_fits 0 c.args.n (tree_most c.args.how.which c.args.how.shrink c.args.x.now)
-            c.requires.some,
-        c.in_err-first.ensures.passed,
-      ));
-    }
+pub alternatives-returns-then-all_literals-clause-made : goal.alternatives-returns-then-all_literals-clause-made
+alternatives-returns-then-all_literals-clause-made = alternatives.returns-then-all_literals-clause-made
 
-pub copies-returns-in_err-next : goal.copies-returns-in_err-next
-copies-returns-in_err-next t c =
-    let is = c.from_residual-in_err-next.ensures.1 in
-    record {
-      made = err_only _ _ c.in_err-next.field-0.0 is;
-      denotes = err_only _ _ c.in_err-next.field-0.0 is;
-      weighs = err_only _ _ c.in_err-next.field-0.0 is;
-      groups = err_only _ _ c.in_err-next.field-0.0 is;
-      refused = handed _ _ c.in_err-next.field-0.0 is (copies_refused c.args.how _ _ _ _ _ c.loop.counter c.args.n c.args.x.now _
-          c.loop.invariant.0 c.loop-test.true c.in_err-next.ensures.refused);
-      passed = handed _ _ c.in_err-next.field-0.0 is (omega (
-        arith,
-        copies_left c.args.how _ _ _ _ c.loop.counter c.args.n c.args.x.now c.loop.invariant.0 c.loop-test.true,
-        c.in_err-next.ensures.passed,
-      ));
-    }
-
-pub copies-returns-in_err-lead : goal.copies-returns-in_err-lead
-copies-returns-in_err-lead t c =
-    let is = c.from_residual-in_err-lead.ensures.1 in
-    record {
-      made = err_only _ _ c.in_err-lead.field-0.0 is;
-      denotes = err_only _ _ c.in_err-lead.field-0.0 is;
-      weighs = err_only _ _ c.in_err-lead.field-0.0 is;
-      groups = err_only _ _ c.in_err-lead.field-0.0 is;
-      refused = handed _ _ c.in_err-lead.field-0.0 is (copies_lead_refused c.args.how _ _ _ _ _ _ _ _ c.loop.counter c.args.n c.args.x.now
-          _ c.loop.invariant.0 c.loop-test.true c.in_ok-next.ensures.made c.in_err-lead.ensures.stays);
-      passed = handed _ _ c.in_err-lead.field-0.0 is (copies_lead_passed c.args.how _ _ _ _ _ _ c.loop.counter c.args.n _ _
-          c.args.x.now _ c.loop.invariant.0 c.loop-test.true c.in_ok-next.ensures.made c.in_ok-next.ensures.weighs c.in_err-lead.ensures);
-    }
-
-pub up_to-returns-in_err-first : goal.up_to-returns-in_err-first
-up_to-returns-in_err-first t c =
-    let is = c.from_residual-in_err-first.ensures.1 in
-    record {
-      made = err_only _ _ c.in_err-first.field-0.0 is;
-      denotes = err_only _ _ c.in_err-first.field-0.0 is;
-      weighs = err_only _ _ c.in_err-first.field-0.0 is;
-      groups = err_only _ _ c.in_err-first.field-0.0 is;
-      refused = handed _ _ c.in_err-first.field-0.0 is (first_round_refused c.args.how.shrink c.args.most c.args.x.now c.requires.some
-          c.in_ok-exit.ensures c.in_err-first.ensures.refused);
-      passed = handed _ _ c.in_err-first.field-0.0 is (omega (
-        arith,
-        round_bytes 0 c.args.most (tree_most c.args.how.which c.args.how.shrink c.args.x.now + 32) c.requires.some,
-        c.in_ok-exit.ensures.bytes,
-        c.in_err-first.ensures.passed,
-      ));
-    }
-
-pub up_to-returns-in_err-next : goal.up_to-returns-in_err-next
-up_to-returns-in_err-next t c =
-    let is = c.from_residual-in_err-next.ensures.1 in
-    record {
-      made = err_only _ _ c.in_err-next.field-0.0 is;
-      denotes = err_only _ _ c.in_err-next.field-0.0 is;
-      weighs = err_only _ _ c.in_err-next.field-0.0 is;
-      groups = err_only _ _ c.in_err-next.field-0.0 is;
-      refused = handed _ _ c.in_err-next.field-0.0 is (rounds_refused c.args.how _ _ _ _ _ c.loop.counter 0 c.args.most _ c.args.greedy
-          c.args.x.now c.loop.invariant _ _ c.loop-test.true c.in_err-next.ensures.refused);
-      passed = handed _ _ c.in_err-next.field-0.0 is (omega (
-        arith,
-        rounds_left c.args.how _ _ _ _ _ c.loop.counter 0 c.args.most _
-            c.args.greedy c.args.x.now c.loop.invariant c.loop-test.true,
-        c.in_err-next.ensures.passed,
-      ));
-    }
-
-pub up_to-returns-in_err-lead : goal.up_to-returns-in_err-lead
-up_to-returns-in_err-lead t c =
-    let is = c.from_residual-in_err-lead.ensures.1 in
-    record {
-      made = err_only _ _ c.in_err-lead.field-0.0 is;
-      denotes = err_only _ _ c.in_err-lead.field-0.0 is;
-      weighs = err_only _ _ c.in_err-lead.field-0.0 is;
-      groups = err_only _ _ c.in_err-lead.field-0.0 is;
-      refused = handed _ _ c.in_err-lead.field-0.0 is (rounds_lead_refused c.args.how _ _ _ _ _ c.loop.counter 0 c.args.most _
-          c.args.greedy c.args.x.now c.loop.invariant _ _ _ _ _ c.loop-test.true c.in_ok-next.ensures.made c.in_err-lead.ensures.stays);
-      passed = handed _ _ c.in_err-lead.field-0.0 is (rounds_lead_passed c.args.how _ _ _ _ _ c.loop.counter 0 c.args.most _
-          c.args.greedy c.args.x.now c.loop.invariant _ _ _ _ _ c.loop-test.true c.in_ok-next.ensures.made c.in_ok-next.ensures.weighs
-          c.in_err-lead.ensures);
-    }
+pub alternatives-returns-then-all_literals-clause-groups : goal.alternatives-returns-then-all_literals-clause-groups
+alternatives-returns-then-all_literals-clause-groups = alternatives.returns-then-all_literals-clause-groups
 
 pub alternatives-returns-then-all_literals-clause-weighs : goal.alternatives-returns-then-all_literals-clause-weighs
-alternatives-returns-then-all_literals-clause-weighs t c = takes_wider _ _ _ _ _ _ _ c.in_ok-literals.ensures.weighs
-    (omega (
-      arith,
-      bytes_of_literals at_least c.args.how.which c.args.subs.now (sym c.all_literals.ensures ∙ c.if-all_literals.true),
-    ))
-    (omega (
-      arith,
-      bytes_of_literals (at_most c.args.how.shrink) c.args.how.which c.args.subs.now (sym c.all_literals.ensures ∙ c.if-all_literals.true),
-    ))
+alternatives-returns-then-all_literals-clause-weighs = alternatives.returns-then-all_literals-clause-weighs
+
+pub alternatives-returns-in_err-literals : goal.alternatives-returns-in_err-literals
+alternatives-returns-in_err-literals = alternatives.returns-in_err-literals
+
+pub alternatives-returns-then-subs-eq1-clause-denotes : goal.alternatives-returns-then-subs-eq1-clause-denotes
+alternatives-returns-then-subs-eq1-clause-denotes = alternatives.returns-then-subs-eq1-clause-denotes
 
 pub alternatives-returns-then-subs-eq1-clause-weighs : goal.alternatives-returns-then-subs-eq1-clause-weighs
-alternatives-returns-then-subs-eq1-clause-weighs t c = takes_wider _ _ _ _ _ _ _ c.in_ok-one.ensures.weighs
-    (omega (arith, single_bytes at_least c.args.how.which c.index-subs-0.result c.args.subs.now (omega arith) c.index-subs-0.is))
-    (omega (
-      arith,
-      single_bytes (at_most c.args.how.shrink) c.args.how.which c.index-subs-0.result c.args.subs.now (omega arith) c.index-subs-0.is,
-    ))
+alternatives-returns-then-subs-eq1-clause-weighs = alternatives.returns-then-subs-eq1-clause-weighs
 
 pub alternatives-returns-in_err-first : goal.alternatives-returns-in_err-first
-alternatives-returns-in_err-first t c =
-    let is = c.from_residual-in_err-first.ensures.1 in
-    record {
-      made = err_only _ _ c.in_err-first.field-0.0 is;
-      denotes = err_only _ _ c.in_err-first.field-0.0 is;
-      weighs = err_only _ _ c.in_err-first.field-0.0 is;
-      groups = err_only _ _ c.in_err-first.field-0.0 is;
-      refused = handed _ _ c.in_err-first.field-0.0 is (part_refused c.args.how _ _ 0 c.index-subs-0-2.result c.args.subs.now _ (omega
-          arith) c.index-subs-0-2.is c.in_err-first.ensures.refused);
-      passed = handed _ _ c.in_err-first.field-0.0 is (omega (
-        arith,
-        first_alternative c.args.how c.index-subs-0-2.result c.args.subs.now (omega arith) (sym c.all_literals.ensures ∙
-            c.if-all_literals.false) c.index-subs-0-2.is,
-        c.in_err-first.ensures.passed,
-      ));
-    }
+alternatives-returns-in_err-first = alternatives.returns-in_err-first
 
 pub alternatives-returns-in_err-second : goal.alternatives-returns-in_err-second
-alternatives-returns-in_err-second t c =
-    let is = c.from_residual-in_err-second.ensures.1 in
-    record {
-      made = err_only _ _ c.in_err-second.field-0.0 is;
-      denotes = err_only _ _ c.in_err-second.field-0.0 is;
-      weighs = err_only _ _ c.in_err-second.field-0.0 is;
-      groups = err_only _ _ c.in_err-second.field-0.0 is;
-      refused = handed _ _ c.in_err-second.field-0.0 is (second_refused c.args.how _ _ c.args.builder.now _ _ 0 0 c.index-subs-0-2.result
-          c.index-subs-1.result c.args.subs.now (omega arith) c.index-subs-0-2.is c.index-subs-1.is c.in_ok-first.ensures.made _ _
-          c.in_err-second.ensures.refused);
-      passed = handed _ _ c.in_err-second.field-0.0 is (omega (
-        arith,
-        two_bytes (at_most c.args.how.shrink) c.args.how.which c.args.subs.now c.index-subs-0-2.result c.index-subs-1.result (omega
-            arith) c.index-subs-0-2.is
-            c.index-subs-1.is,
-        bytes_of_alternation (at_most c.args.how.shrink) c.args.how.which c.args.subs.now (omega arith) (sym c.all_literals.ensures ∙
-            c.if-all_literals.false),
-        c.in_ok-first.ensures.weighs.most,
-        c.in_err-second.ensures.passed,
-      ));
-    }
+alternatives-returns-in_err-second = alternatives.returns-in_err-second
+
+pub alternatives-returns-in_err-union : goal.alternatives-returns-in_err-union
+alternatives-returns-in_err-union = alternatives.returns-in_err-union
+
+pub alternatives-returns-in_err-end : goal.alternatives-returns-in_err-end
+alternatives-returns-in_err-end = alternatives.returns-in_err-end
+
+pub alternatives-returns-in_err-lead : goal.alternatives-returns-in_err-lead
+alternatives-returns-in_err-lead = alternatives.returns-in_err-lead
+
+pub alternatives-returns-in_err-lead-2 : goal.alternatives-returns-in_err-lead-2
+alternatives-returns-in_err-lead-2 = alternatives.returns-in_err-lead-2
+
+pub alternatives-returns-in_err-lead-3 : goal.alternatives-returns-in_err-lead-3
+alternatives-returns-in_err-lead-3 = alternatives.returns-in_err-lead-3
+
+pub alternatives-returns-in_err-lead-4 : goal.alternatives-returns-in_err-lead-4
+alternatives-returns-in_err-lead-4 = alternatives.returns-in_err-lead-4
+
+pub alternatives-loop-i-init : goal.alternatives-loop-i-init
+alternatives-loop-i-init = alternatives.loop-i-init
+
+pub alternatives-compile-requires-in-loop-i : goal.alternatives-compile-requires-in-loop-i
+alternatives-compile-requires-in-loop-i = alternatives.compile-requires-in-loop-i
+
+pub alternatives-returns-in_err-next : goal.alternatives-returns-in_err-next
+alternatives-returns-in_err-next = alternatives.returns-in_err-next
+
+pub alternatives-returns-in_err-lead-5 : goal.alternatives-returns-in_err-lead-5
+alternatives-returns-in_err-lead-5 = alternatives.returns-in_err-lead-5
+
+pub alternatives-returns-in_err-lead-6 : goal.alternatives-returns-in_err-lead-6
+alternatives-returns-in_err-lead-6 = alternatives.returns-in_err-lead-6
+
+pub alternatives-loop-i-preserved : goal.alternatives-loop-i-preserved
+alternatives-loop-i-preserved = alternatives.loop-i-preserved
+
+pub alternatives-returns-clause-made : goal.alternatives-returns-clause-made
+alternatives-returns-clause-made = alternatives.returns-clause-made
+
+pub alternatives-returns-clause-denotes : goal.alternatives-returns-clause-denotes
+alternatives-returns-clause-denotes = alternatives.returns-clause-denotes
 
 pub alternatives-returns-clause-weighs : goal.alternatives-returns-clause-weighs
-alternatives-returns-clause-weighs t c = cases_weigh c.args.how _ _ _ _ c.loop-i.i c.args.subs.now c.loop-i.invariant
-    c.loop-i-test.false (omega arith) (sym c.all_literals.ensures ∙ c.if-all_literals.false)
-
-pub zero_or_more-returns-clause-weighs : goal.zero_or_more-returns-clause-weighs
-zero_or_more-returns-clause-weighs t c = takes_wider _ _ _ _ _ _ _
-    (star_takes _ _ _ _ _ _ _ _ _ _ _ c.args.greedy c.in_ok-union.ensures c.in_ok-body.ensures.made c.in_ok-body.ensures.weighs
-    c.in_ok-lead.ensures c.in_ok-lead-2.ensures)
-    (omega (
-      arith,
-      loop_is _ (tree_least c.args.how.which c.args.x.now) (sym c.reads-some.ensures ∙ c.if-not-some.false),
-    ))
-    (omega (
-      arith,
-      loop_is _ (tree_most c.args.how.which c.args.how.shrink c.args.x.now) (sym c.reads-some.ensures ∙ c.if-not-some.false),
-    ))
-
-pub zero_or_more_of_empty-returns-clause-weighs : goal.zero_or_more_of_empty-returns-clause-weighs
-zero_or_more_of_empty-returns-clause-weighs t c =
-    loop_takes _ _ _ _ _ _ _ _ _ _ _ _ _ _ _ _ _ c.args.greedy c.in_ok-body.ensures.made c.in_ok-body.ensures.weighs c.in_ok-plus.ensures
-    c.in_ok-lead.ensures c.in_ok-lead-2.ensures c.in_ok-question.ensures c.in_ok-empty.ensures c.in_ok-lead-3.ensures
-    c.in_ok-lead-4.ensures _ c.in_ok-lead-5.ensures
-
-pub one_or_more-returns-clause-weighs : goal.one_or_more-returns-clause-weighs
-one_or_more-returns-clause-weighs t c = plus_takes _ _ _ _ _ _ _ _ _ _ _ c.args.greedy c.in_ok-body.ensures.made
-    c.in_ok-body.ensures.weighs c.in_ok-union.ensures c.in_ok-lead.ensures c.in_ok-lead-2.ensures
-
-pub option-returns-clause-weighs : goal.option-returns-clause-weighs
-option-returns-clause-weighs t c = option_takes _ _ _ _ _ _ _ _ _ _ _ c.args.greedy _ c.in_ok-union.ensures c.in_ok-body.ensures.made
-    c.in_ok-body.ensures.weighs c.in_ok-lead.ensures c.in_ok-lead-2.ensures
-
-pub captured-returns-clause-weighs : goal.captured-returns-clause-weighs
-captured-returns-clause-weighs t c = takes_wider _ _ _ _ _ _ _
-    (capture_takes _ _ _ _ _ _ _ _ _ _ _ _ _ _ _ _ _ _ _ c.in_ok-start.ensures.added c.in_ok-body-2.ensures.made
-    c.in_ok-body-2.ensures.weighs c.in_ok-end.ensures.added c.in_ok-lead.ensures _ c.in_ok-lead-2.ensures)
-    (omega (arith, group_kept c.args.how.which c.args.index (sym c.keeps.ensures ∙ c.if-not-keeps.false)))
-    (omega (arith, group_kept c.args.how.which c.args.index (sym c.keeps.ensures ∙ c.if-not-keeps.false)))
-
-pub at_least-returns-clause-weighs : goal.at_least-returns-clause-weighs
-at_least-returns-clause-weighs t c = takes_wider _ _ _ _ _ _ _
-    (join_takes _ _ _ _ _ _ _ _ _ _ _ c.in_ok-prefix.ensures.weighs c.in_ok-prefix.ensures.made.fragment.end_there
-    c.in_ok-last.ensures.made c.in_ok-last.ensures.weighs _ c.in_ok-lead.ensures)
-    (omega (
-      arith,
-      some_owed c.args.min (is_above_zero (minimum_len c.args.x.now)) (tree_least c.args.how.which c.args.x.now) (omega arith),
-      copies_before c.args.min (tree_least c.args.how.which c.args.x.now) (omega arith),
-    ))
-    (omega (
-      arith,
-      some_owed c.args.min (is_above_zero (minimum_len c.args.x.now)) (tree_most c.args.how.which c.args.how.shrink c.args.x.now) (omega
-          arith),
-      copies_before c.args.min (tree_most c.args.how.which c.args.how.shrink c.args.x.now) (omega arith),
-    ))
-
-pub up_to-returns-clause-weighs : goal.up_to-returns-clause-weighs
-up_to-returns-clause-weighs t c = rounds_take c.args.how _ _ _ _ _ c.loop.counter 0 c.args.most _ c.args.greedy c.args.x.now
-    c.loop.invariant _ c.in_ok-lead-2.ensures c.loop-test.false
-
-pub owed_and_more-returns-clause-weighs : goal.owed_and_more-returns-clause-weighs
-owed_and_more-returns-clause-weighs t c = rounds_take c.args.how _ _ _ _ _ c.loop.counter c.args.min c.args.most _ c.args.greedy
-    c.args.x.now c.loop.invariant _ c.in_ok-lead-2.ensures c.loop-test.false
-
-pub owed_and_more-returns-in_err-lead-clause-passed : goal.owed_and_more-returns-in_err-lead-clause-passed
-owed_and_more-returns-in_err-lead-clause-passed t c =
-    handed _ _ c.in_err-lead.field-0.0 c.from_residual-in_err-lead.ensures.1 (rounds_lead_passed c.args.how _ _ _ _ _ c.loop.counter
-    c.args.min c.args.most _ c.args.greedy c.args.x.now c.loop.invariant _ _ _ _ _ c.loop-test.true c.in_ok-next.ensures.made
-    c.in_ok-next.ensures.weighs c.in_err-lead.ensures)
+alternatives-returns-clause-weighs = alternatives.returns-clause-weighs

@@ -2,8 +2,9 @@ use Rattle.std.proofs.Common.{◌≡◌, ◌≤◌, refl, ◌∙◌, arith, map,
 use Rattle.std.proofs.lemmas.List.{length-map}
 use Rattle.hir_core.specs.Sequences.{bytes_of}
 use Rattle.thompson_nfa.proofs.Steps.ErrorLemmas.{handed}
-use Rattle.thompson_nfa.proofs.Classes.PathLemmas.{sequence_turned, sequence_first, compiling_as, parts_range, empty_by, all_quit}
-use Rattle.thompson_nfa.proofs.Classes.PathLemmas.{first_quit, turned_quit}
+use Rattle.thompson_nfa.proofs.Classes.PathLemmas.{sequence_turned, sequence_first}
+use Rattle.thompson_nfa.proofs.Classes.PathEndLemmas.{compiling_as, parts_range, empty_by, all_quit}
+use Rattle.thompson_nfa.proofs.Classes.PathEndLemmas.{first_quit, turned_quit}
 use Rattle.thompson_nfa.specs.Utf8Stacks.{left_bytes}
 use Rattle.thompson_nfa.proofs.Classes.SequenceBytes.{first_weighs, turned_weighs, no_memory, left_least}
 use Rattle.thompson_nfa.proofs.class_fragments.utf8_compiler.add.Goals as goal

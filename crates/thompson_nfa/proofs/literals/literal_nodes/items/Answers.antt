@@ -1,7 +1,8 @@
 use Rattle.std.proofs.Common.{arith, ap, ◌∙◌, map, refl}
 use Rattle.std.proofs.lemmas.List.{map-append}
 use Rattle.thompson_nfa.specs.LiteralGroups.{texts}
-use Rattle.thompson_nfa.proofs.LiteralTries.LiteralNodeLemmas.{no_item, match_turn, chunk_turn}
+use Rattle.thompson_nfa.proofs.LiteralTries.LiteralNodeLemmas.{no_item}
+use Rattle.thompson_nfa.proofs.LiteralTries.LiteralRoundLemmas.{match_turn, chunk_turn}
 use Rattle.thompson_nfa.proofs.literals.literal_nodes.items.Goals as goal
 
 pub loop-rest-init : goal.loop-rest-init

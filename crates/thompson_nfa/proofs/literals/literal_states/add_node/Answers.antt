@@ -1,8 +1,9 @@
 use Rattle.std.proofs.Common.{refl, length, arith}
 use Rattle.thompson_nfa.proofs.Steps.ErrorLemmas.{handed}
-use Rattle.thompson_nfa.proofs.LiteralTries.LiteralStateLemmas.{no_items, row_chunk, row_added, row_refused}
-use Rattle.thompson_nfa.proofs.LiteralTries.LiteralStateLemmas.{row_passed, rows_one, rows_union}
-use Rattle.thompson_nfa.proofs.LiteralTries.LiteralStateLemmas.{rows_refused, rows_passed}
+use Rattle.thompson_nfa.proofs.LiteralTries.LiteralStateLemmas.{no_items}
+use Rattle.thompson_nfa.proofs.LiteralTries.LiteralRowLemmas.{row_chunk, row_added, row_refused}
+use Rattle.thompson_nfa.proofs.LiteralTries.LiteralRowLemmas.{row_passed, rows_one, rows_union}
+use Rattle.thompson_nfa.proofs.LiteralTries.LiteralRowLemmas.{rows_refused, rows_passed}
 use Rattle.thompson_nfa.proofs.literals.literal_states.add_node.Goals as goal
 
 pub loop-item-init : goal.loop-item-init
