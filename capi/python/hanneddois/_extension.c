@@ -1245,6 +1245,20 @@ static __attribute__((noinline)) PyObject *part_of_other(PyObject *object, Py_ss
     return part;
 }
 
+/* The strs of the ASCII characters, each of them NULL until it is first needed. */
+static PyObject *ascii_strs[128];
+
+/* The str of ASCII bytes. Many parts are one character, whose str Python keeps anyway. */
+static inline PyObject *part_of_ascii(const char *bytes, Py_ssize_t length)
+{
+    unsigned char first = length == 1 ? (unsigned char)*bytes : 0x80;
+    if (first >= 0x80)
+        return PyUnicode_FromStringAndSize(bytes, length);
+    if (!ascii_strs[first] && !(ascii_strs[first] = PyUnicode_FromStringAndSize(bytes, 1)))
+        return NULL;
+    return new_reference(ascii_strs[first]);
+}
+
 /* The part of a match between two offsets. */
 static inline PyObject *part_of(const Match *match, Py_ssize_t start, Py_ssize_t end)
 {
@@ -1252,7 +1266,7 @@ static inline PyObject *part_of(const Match *match, Py_ssize_t start, Py_ssize_t
     if (PyBytes_CheckExact(haystack))
         return PyBytes_FromStringAndSize(match->origin + start, end - start);
     if (match->origin)
-        return PyUnicode_FromStringAndSize(match->origin + start, end - start);
+        return part_of_ascii(match->origin + start, end - start);
     return PyUnicode_CheckExact(haystack) ? PyUnicode_Substring(haystack, start, end) : part_of_other(haystack, start, end);
 }
 
@@ -2013,13 +2027,58 @@ static inline PyObject *quick_match(Iterator *self, size_t earlier)
     return (PyObject *)match;
 }
 
+/* For 16 bytes, which of them are in a character but not its first: a one in the lowest bit of each such byte. */
+typedef struct {
+    uint64_t words[2];
+} Inner;
+
+static inline Inner inner_bytes(const uint8_t *bytes)
+{
+    const uint64_t ones = 0x0101010101010101u;
+    uint64_t first = word_at(bytes), second = word_at(bytes + 8);
+    return (Inner){{(first >> 7) & ~(first >> 6) & ones, (second >> 7) & ~(second >> 6) & ones}};
+}
+
+/* How many characters start in the first bytes of these 16. */
+static inline size_t characters_in(const Inner *inner, size_t bytes)
+{
+    uint64_t first = bytes < 8 ? inner->words[0] & ~(~(uint64_t)0 << 8 * bytes) : inner->words[0];
+    uint64_t second = bytes > 8 ? inner->words[1] << 8 * (16 - bytes) : 0;
+    return bytes - (size_t)(((first + second) * 0x0101010101010101u) >> 56);
+}
+
+/* Makes the match of the next row, which ends few bytes behind the position. Some of its characters aren't ASCII. */
+static __attribute__((noinline)) PyObject *wide_match(Iterator *self)
+{
+    Scan *scan = &self->scan;
+    const hanneddois_match *row = &scan->rows[scan->next];
+    Py_ssize_t count = scan->width ? group_count(scan->matcher, (Py_ssize_t)row->pattern) : 0;
+    if (count - 1 > FEW_GROUPS)
+        return next_match(self);
+    size_t from = self->position.byte, before = self->position.character;
+    Inner inner = inner_bytes(scan->haystack.bytes + from);
+    size_t start = before + characters_in(&inner, row->start - from), end = before + characters_in(&inner, row->end - from);
+    scan->next++;
+    self->position = (Position){row->end, end};
+    Match *match = reuse_match();
+    fill_match(match, scan->matcher, scan->haystack.object, row, start, end, &self->place, NULL);
+    if (count <= 1)
+        return (PyObject *)match;
+    const size_t *slots = slots_of(scan);
+    match->offsets = match->few;
+    for (Py_ssize_t i = 0; i < 2 * (count - 1); i++)
+        match->few[i] = slots[2 + i] == HANNEDDOIS_NO_OFFSET ? -1 : (Py_ssize_t)(before + characters_in(&inner, slots[2 + i] - from));
+    return (PyObject *)match;
+}
+
 /* The next match of a str that isn't ASCII, if there is more before it than a few characters that are. */
 static __attribute__((noinline)) PyObject *next_far(Iterator *self)
 {
+    const Haystack *haystack = &self->scan.haystack;
     const hanneddois_match *row = &self->scan.rows[self->scan.next];
     const Position *position = &self->position;
-    if (!is_short_ascii(&self->scan.haystack, row->start, row->end))
-        return next_match(self);
+    if (!is_short_ascii(haystack, row->start, row->end))
+        return row->end - position->byte <= 16 && haystack->length - position->byte >= 16 ? wide_match(self) : next_match(self);
     return quick_match(self, row->start - position->character - count_between(&self->scan.haystack, position->byte, row->start));
 }
 

@@ -208,6 +208,16 @@ class Searches(unittest.TestCase):
                             self.assertEqual(ours.findall(haystack), theirs.findall(haystack))
                             self.assertEqual(ours.split(haystack), theirs.split(haystack))
 
+    def test_groups_among_characters_of_all_widths(self):
+        pick = random.Random(7)
+        for pattern in (r"(\w)(\w*)", r"(\w+)( )?(\w*)", r"([é日]+)|(a)|(𝒳)", r"(\w)(\w)?(\w)?(\w)?(\w)?", r"(?:(\w) )*"):
+            ours, theirs = hanneddois.compile(pattern), re.compile(pattern)
+            for letters in ("aé ", "abcdefgh é", "a日 ", "aé日𝒳  ", "ab𝒳"):
+                haystack = "".join(pick.choice(letters) for _ in range(pick.randrange(1, 700)))
+                found, wanted = ([(match.groups(), match.span(), [match.span(group) for group in range(1, match.re.groups + 1)])
+                                  for match in regex.finditer(haystack)] for regex in (ours, theirs))
+                self.assertEqual(found, wanted, (pattern, haystack))
+
     def test_str_from_each_offset(self):
         for pattern in (r"\w", r"", r"\b", r"[0-9]+", r"$", r"^"):
             regex, theirs = hanneddois.compile(pattern), re.compile(pattern)
