@@ -85,8 +85,8 @@ fn slot_of(step: &Step) -> Option<usize>
     }
 }
 
-/// The offset after a step.
-#[inline(always)]
+/// The offset after a step. It is a call of its own: in one body with the question whether a step writes, both would be one jump by a table.
+#[inline(never)]
 fn after(step: &Step, haystack: &[u8], at: usize, end: usize) -> usize
     requires ordered { (at ≤ end) × (end ≤ length haystack.now) }
     ensures is { result ≡ after_step haystack.now end step.now at }
