@@ -74,7 +74,9 @@ def wrong_with(line, result):
 
 
 def wrong_when_quiet(runs, line, result):
-    """With -q the status is the same, except that 0 comes before an error."""
+    """With -q the status is the same, except that 0 comes before an error, and that a pattern whose matches can't be printed may be searched for."""
+    if result.status == 2 and b"matches can't be printed or marked" in result.said:
+        return None
     quiet = runs.plain(line, ("-q", *line.words))
     if quiet.printed and not has_long(line, "--h", "--ve") and not has_flag(line, "V"):
         return f"-q prints: {quiet.text()}"
