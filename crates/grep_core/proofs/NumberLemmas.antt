@@ -22,7 +22,7 @@ use Rattle.grep_core.specs.ContextPrinting.{Item, item, print_as, print_item, st
 use Rattle.line_search.specs.Lines.{SplitLine, TextLine, numbered, split_lines}
 use Rattle.grep_core.specs.Printing.{column_field, column_of, fields, first_column, has_marks, if_asked, is_printed, line_text, match_text, name_field, number_field}
 use Rattle.grep_core.specs.Printing.{printed_for, printed_line, printed_match, printed_matches, printed_once, printed_with, shown_matches}
-use Rattle.grep_core.specs.Skipping.{AreWhole, MaySkip, SkipsTo, held_of, shows_numbers}
+use Rattle.grep_core.specs.Skipping.{AreWhole, MaySkip, PassesLinesTo, held_of, shows_numbers}
 use Rattle.line_search.specs.LineMatchers.{LineMatcher}
 use Rattle.grep_core.specs.Report.{after_hidden, after_of, before_of, count_line, is_wanted, parting, print_lines, shown_of}
 use Rattle.grep_core.specs.Selecting.{count_selected, limited, roles_from}
@@ -192,7 +192,7 @@ module _ (t : Task) (f : LineMatcher) (number place : ℕ) (c : Reporter) where
 
   -- lines that were skipped need not be counted
   pub passes_uncounted : (p : Progress) (lines rest out now : List ℕ) (j l : ℕ) → shows_numbers t.what.now ≡ false →
-      SkipsTo t f p (at number place) lines rest out now → SkipsTo t f p (at j l) lines rest out now
+      PassesLinesTo t f p (at number place) lines rest out now → PassesLinesTo t f p (at j l) lines rest out now
   passes_uncounted p lines rest out now j l none passes = record {
     lack = passes.lack;
     printed =
@@ -207,10 +207,10 @@ pub passed_if_counted : (t : Task) (f : LineMatcher) (p : Progress) (now : Repor
     (shows_numbers t.what.now ≡ true → number ≡ p.number + count_by is_feed part) →
     (shows_numbers t.what.now ≡ true → place ≡ p.place + length part) →
     c.left ≡ now.course.left → c.waiting.items ≡ [] → c.known ≡ after_hidden now.course.known →
-    SkipsTo t f p (record p { number = number; place = place; telling = record now { course = c } }) text (drop start text) out out
+    PassesLinesTo t f p (record p { number = number; place = place; telling = record now { course = c } }) text (drop start text) out out
 passed_if_counted t f p now c number place held start text part out is_now may whole within some starts held_is enough cut numbers places
     same empty known =
-    subst (λ (u : Reporter). SkipsTo t f p (record p { number = number; place = place; telling = record u { course = c } }) text
+    subst (λ (u : Reporter). PassesLinesTo t f p (record p { number = number; place = place; telling = record u { course = c } }) text
     (drop start text) out out) (sym is_now) (by (shows_numbers t.what.now) refl)
   where
     feeds : ℕ
@@ -226,7 +226,7 @@ passed_if_counted t f p now c number place held start text part out is_now may w
     hidden = known ∙ ap (λ (u : Reporter). after_hidden u.course.known) is_now
 
     by : (v : Bool) → shows_numbers t.what.now ≡ v →
-        SkipsTo t f p (record p { number = number; place = place; telling = record (p.telling) { course = c } }) text
+        PassesLinesTo t f p (record p { number = number; place = place; telling = record (p.telling) { course = c } }) text
         (drop start text) out out
     by true is =
         passed_over t f p c number place held feeds start text part out may whole within some starts held_is enough cut refl (numbers is)

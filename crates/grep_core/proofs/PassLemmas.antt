@@ -19,7 +19,7 @@ use Rattle.grep_core.specs.Blocks.{reported_bytes, counts_lines}
 use Rattle.line_search.specs.Candidates.{IsLineStart}
 use Rattle.grep_core.specs.ContextPrinting.{Item, print_item, still, waiting_item}
 use Rattle.line_search.specs.Lines.{SplitLine, ended, numbered, split_lines}
-use Rattle.grep_core.specs.Skipping.{AreWhole, HasNoMatch, MaySkip, SkipsTo, held_of}
+use Rattle.grep_core.specs.Skipping.{AreWhole, HasNoMatch, MaySkip, PassesLinesTo, held_of}
 use Rattle.line_search.specs.LineMatchers.{LineMatcher}
 use Rattle.grep_core.specs.Report.{before_of, after_of, after_hidden, count_line, name_line}
 use Rattle.grep_core.specs.Selecting.{count_selected}
@@ -205,7 +205,7 @@ pub passed_over : (t : Task) (f : LineMatcher) (p : Progress) (c : ContextPrinte
     held ≡ held_of t.what.now → held ≤ count_by is_feed (drop start text) → part ≡ take start text → feeds ≡ count_by is_feed part →
     number ≡ p.number + feeds → place ≡ p.place + start → c.left ≡ p.telling.course.left → c.waiting.items ≡ [] →
     c.known ≡ after_hidden p.telling.course.known →
-    SkipsTo t f p (record p { number = number; place = place; telling = record (p.telling) { course = c } }) text (drop start text) out out
+    PassesLinesTo t f p (record p { number = number; place = place; telling = record (p.telling) { course = c } }) text (drop start text) out out
 passed_over t f p c number place held feeds start text part out may whole within some starts held_is enough cut counted numbers places
     same empty known =
     let w : OutputOptions = t.what.now in
@@ -273,11 +273,11 @@ all_told block done whole none =
     whole_none (drop done block) (whole_behind block done whole) (ap (position is_feed) (sym rest) ∙ none) in
     omega (arith, empty, length-drop done block)
 
-pub passes_none : (t : Task) (f : LineMatcher) (p : Progress) (lines out : List ℕ) → SkipsTo t f p p lines lines out out
+pub passes_none : (t : Task) (f : LineMatcher) (p : Progress) (lines out : List ℕ) → PassesLinesTo t f p p lines lines out out
 passes_none t f p lines out = record { lack = λ lack. lack; printed = λ lack more. refl; counted = λ lack more. refl }
 
 pub then_passes : (t : Task) (f : LineMatcher) (p q r : Progress) (lines rest last out mid now : List ℕ) →
-    SkipsTo t f p q lines rest out mid → SkipsTo t f q r rest last mid now → SkipsTo t f p r lines last out now
+    PassesLinesTo t f p q lines rest out mid → PassesLinesTo t f q r rest last mid now → PassesLinesTo t f p r lines last out now
 then_passes t f p q r lines rest last out mid now a b = record {
   lack = λ lack. b.lack (a.lack lack);
   printed = λ lack more. a.printed lack more ∙ b.printed (a.lack lack) more;
@@ -289,7 +289,7 @@ pub passes_line : (t : Task) (f : LineMatcher) (p q : Progress) (block text piec
     (HasNoMatch f (ended piece) → (lines : List SplitLine) → out ++ reported_bytes t f p (ended piece ∷ lines) ≡
     now ++ reported_bytes t f q lines) →
     (HasNoMatch f (ended piece) → (lines : List SplitLine) → counts_lines t f q lines ≡ counts_lines t f p (ended piece ∷ lines)) →
-    SkipsTo t f p q (drop done block) (drop (done + (len + 1)) block) out now
+    PassesLinesTo t f p q (drop done block) (drop (done + (len + 1)) block) out now
 passes_line t f p q block text piece out now done len rest found cut reported counts = record {
   lack = λ lack. others_lack f block text piece done len rest found cut lack;
   printed = λ lack more.
@@ -303,6 +303,6 @@ passes_line t f p q block text piece out now done len rest found cut reported co
 
 -- of the same haystacks
 pub passes_same : (t : Task) (f : LineMatcher) (p q : Progress) (lines same rest also out now : List ℕ) → lines ≡ same → rest ≡ also →
-    SkipsTo t f p q lines rest out now → SkipsTo t f p q same also out now
+    PassesLinesTo t f p q lines rest out now → PassesLinesTo t f p q same also out now
 passes_same t f p q lines same rest also out now one two a =
-    subst (λ (l : List ℕ). SkipsTo t f p q l also out now) one (subst (λ (l : List ℕ). SkipsTo t f p q lines l out now) two a)
+    subst (λ (l : List ℕ). PassesLinesTo t f p q l also out now) one (subst (λ (l : List ℕ). PassesLinesTo t f p q lines l out now) two a)

@@ -35,7 +35,7 @@ shows_numbers w = prints_lines w.print && (w.numbers || w.offsets)
 
 -- The lines were processed up to `rest`. If none of them has a match, then none in `rest` has one. The output so far, followed by what is
 -- still to be printed, is unchanged, whatever follows these lines. So is the number of selected lines.
-pub record SkipsTo (t : Task) (f : LineMatcher) (old new : Progress) (lines rest out now : List ℕ) : Type 0 where
+pub record PassesLinesTo (t : Task) (f : LineMatcher) (old new : Progress) (lines rest out now : List ℕ) : Type 0 where
   pub lack : All (HasNoMatch f) (split_lines lines) → All (HasNoMatch f) (split_lines rest)
   pub printed : All (HasNoMatch f) (split_lines lines) → (more : List ℕ) →
       out ++ reported_bytes t f old (split_lines (lines ++ more)) ≡ now ++ reported_bytes t f new (split_lines (rest ++ more))

@@ -5,7 +5,7 @@ ghost use Rattle.grep_core.specs.Blocks.{SearchesBy, finds_by, reported_bytes, c
 ghost use Rattle.line_search.specs.Candidates.{IsLineStart};
 ghost use Rattle.grep_core.specs.ContextPrinting.{Waits};
 ghost use Rattle.line_search.specs.Lines.{SplitLine, ended, split_lines};
-ghost use Rattle.grep_core.specs.Skipping.{AreWhole, HasNoMatch, MaySkip, SkipsTo, held_of, shows_numbers};
+ghost use Rattle.grep_core.specs.Skipping.{AreWhole, HasNoMatch, MaySkip, PassesLinesTo, held_of, shows_numbers};
 ghost use Rattle.line_search.specs.LineMatchers.{LineMatcher};
 ghost use Rattle.line_search.specs.Searchers.{Sought, found_by};
 
@@ -132,7 +132,7 @@ fn skip_over(task: Task<'_>, progress: &mut Progress, lines: &[u8]) -> Result<us
     ensures waits { OnOk result (Waits task.entry.what.now progress.new.telling.course) }
     ensures within { IfOk result (λ start. start ≤ length lines.now) }
     ensures passes { IfOk result (λ start. (f : LineMatcher) (out : List ℕ) →
-        SkipsTo task.entry f progress.old progress.new lines.now (drop start lines.now) out out) }
+        PassesLinesTo task.entry f progress.old progress.new lines.now (drop start lines.now) out out) }
 {
     let start = last_lines(lines, held_of(task.what));
     if start == 0 {
@@ -203,7 +203,7 @@ fn report_each(
     ensures all { all ≡ true → IfOk result (λ done. length lines.now ≤ done) }
     ensures may { IfOk result (λ done. done < length lines.now → MaySkip task.entry.what.now progress.new.telling.course) }
     ensures passes { IfOk result (λ done. (f : LineMatcher) →
-        SkipsTo task.entry f progress.old progress.new lines.now (drop done lines.now) out.old.items out.new.items) }
+        PassesLinesTo task.entry f progress.old progress.new lines.now (drop done lines.now) out.old.items out.new.items) }
 {
     let mut done = 0usize;
     while !stops(task.what, &progress.telling.course, all) {
@@ -228,7 +228,7 @@ fn report_lacking(
     requires whole { AreWhole lines.now }
     ensures waits { OnOk result (Waits task.entry.what.now progress.new.telling.course) }
     ensures passes { OnOk result ((f : LineMatcher) →
-        SkipsTo task.entry f progress.old progress.new lines.now [] out.old.items out.new.items) }
+        PassesLinesTo task.entry f progress.old progress.new lines.now [] out.old.items out.new.items) }
 {
     let done = report_each(alloc, out, task, progress, lines, false)?;
     if done == lines.len() {

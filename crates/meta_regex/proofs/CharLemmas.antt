@@ -1,4 +1,4 @@
--- Rounds of a class of characters: what its table tells, and that the rounds from an offset on are a span of a run.
+-- Rounds of a class of characters: what its table says, and that the rounds from an offset on are a span of a run.
 use Rattle.std.proofs.Common.{◌≡◌, ℕ, zero, suc, ◌+◌, ◌-◌, ◌*◌, ◌<◌, ◌≤◌, ◌&&◌, nat_lt, get_or, Bool, true, false, List, [], ◌∷◌, ◌++◌, length, drop}
 use Rattle.std.proofs.Common.{Option, Some, None, IfSome, Result, Ok, Err, Vec, All, refl, sym, ap, subst, ◌∙◌, inl, inr, arith, if◌then◌else◌, nat_le, length-append, length-drop, take, take_all}
 use Rattle.std.specs.Global.{Global}
@@ -12,7 +12,7 @@ use Rattle.hir_core.specs.Tree.{Tree}
 use Rattle.hir_core.specs.Means.{Looks, is_member}
 use Rattle.hir_core.specs.PreferredEnds.{Ends, at_least, character_end, preferred_ends, up_to}
 use Rattle.literal_search.specs.Searches.{IsNextStart, StartsFrom}
-use Rattle.meta_regex.specs.CharRounds.{Advances, AreCharsOf, AreRoundsFrom, EndsAt, IsRoundAt, Leads, SaysWhether}
+use Rattle.meta_regex.specs.CharRounds.{Advances, AreCharsOf, AreRoundsFrom, EndsAt, IsRoundAt, RoundsLead, SaysWhether}
 use Rattle.meta_regex.specs.Runs.{IsNextRun, IsRunOf}
 use Rattle.meta_regex.specs.declared.char_rounds.Round.{Round}
 use Rattle.meta_regex.specs.declared.char_rounds.Round.TheVariants.{Missing, To, Unknown}
@@ -24,26 +24,26 @@ use Rattle.meta_regex.proofs.SequenceLemmas.{next_from, nowhere_from}
 
 -- ---- rounds of one end each, one after the other
 -- so many rounds consume as many bytes or more
-pub leads_far : (f : Ends) (n i j : ℕ) → Leads f n i j → i + n ≤ j
+pub leads_far : (f : Ends) (n i j : ℕ) → RoundsLead f n i j → i + n ≤ j
 leads_far f zero i j it = omega (arith, it)
 leads_far f (suc n) i j it = omega (arith, it.1, leads_far f n it.0 j it.3)
 
--- one more round behind them
-pub one_more : (f : Ends) (n i j k : ℕ) → Leads f n i j → j < k → f j ≡ k ∷ [] → Leads f (n + 1) i k
+-- one more round after them
+pub one_more : (f : Ends) (n i j k : ℕ) → RoundsLead f n i j → j < k → f j ≡ k ∷ [] → RoundsLead f (n + 1) i k
 one_more f n i j k it low end =
     let next : suc n ≡ n + 1 = omega arith in
-    subst (λ (m : ℕ). Leads f m i k) next (behind n i it)
+    subst (λ (m : ℕ). RoundsLead f m i k) next (behind n i it)
   where
-    behind : (n i : ℕ) → Leads f n i j → Leads f (suc n) i k
+    behind : (n i : ℕ) → RoundsLead f n i j → RoundsLead f (suc n) i k
     behind zero i it = (k, omega (arith, it, low), ap f it ∙ end, refl)
     behind (suc n) i it = (it.0, it.1, it.2, behind n it.0 it.3)
 
-no_rounds : (f : Ends) (n i j : ℕ) → n ≤ 0 → Leads f n i j → i ≡ j
+no_rounds : (f : Ends) (n i j : ℕ) → n ≤ 0 → RoundsLead f n i j → i ≡ j
 no_rounds f zero i j none it = it
 no_rounds f (suc n) i j none it = absurd (omega (arith, none))
 
 module _ (f : Ends) (e : ℕ) (stop : f e ≡ []) where
-  leads_up_to : (n m k : ℕ) → Leads f n k e → n ≤ m → Led (up_to true f m k) e
+  leads_up_to : (n m k : ℕ) → RoundsLead f n k e → n ≤ m → Led (up_to true f m k) e
   leads_up_to zero zero k it enough = record { others = []; is = ap (λ (m : ℕ). m ∷ []) it }
   leads_up_to zero (suc m) k it enough = record {
     others = [];
@@ -58,7 +58,7 @@ module _ (f : Ends) (e : ℕ) (stop : f e ≡ []) where
       }
 
   -- at least so many rounds prefer the last end of more
-  pub leads_at_least : (h : List ℕ) → e ≤ length h → (least n k : ℕ) → Leads f n k e → least ≤ n → Led (at_least h true f least k) e
+  pub leads_at_least : (h : List ℕ) → e ≤ length h → (least n k : ℕ) → RoundsLead f n k e → least ≤ n → Led (at_least h true f least k) e
   leads_at_least h within zero n k it enough =
       leads_up_to n (length h - k) k it (omega (arith, within, leads_far f n k e it))
   leads_at_least h within (suc least) zero k it enough = absurd (omega (arith, enough))
@@ -113,7 +113,7 @@ next_from_later x h from at (Found i j) low so it = (next_from x h from at i so 
 next_from_later x h from at NoRun low so it = nowhere_from x h from at so it
 next_from_later x h from at (From s) low so it = next_from x h from at s so low it
 
--- ---- what a table tells of a character
+-- ---- what a table says of a character
 member_ends : (b : Bool) (j : ℕ) → b ≡ true → (if b then j ∷ [] else []) ≡ j ∷ []
 member_ends true j is = refl
 member_ends false j is = cc

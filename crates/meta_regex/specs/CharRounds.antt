@@ -17,7 +17,7 @@ pub record AreCharsOf (table : List Bool) (x : Tree) : Type 0 where
   pub class : x ≡ char_class ranges
   pub read : IsTableOf table ranges
 
--- a round ends behind its start, within the haystack
+-- a round ends after its start, within the haystack
 abbrev pub Advances : List ℕ → ℕ → Round → Type 0
 Advances h i (To j) = (i < j) × (j ≤ length h)
 Advances h i Missing = ⊤
@@ -42,12 +42,12 @@ IsRoundAt x h i Missing = (looks : Looks) → preferred_ends looks h x i ≡ []
 IsRoundAt x h i Unknown = ⊤
 
 -- n rounds of one end each lead from i to j
-abbrev pub Leads : Ends → ℕ → ℕ → ℕ → Type 0
-Leads f zero i j = i ≡ j
-Leads f (suc n) i j = (k : ℕ) × (i < k) × (f i ≡ k ∷ []) × Leads f n k j
+abbrev pub RoundsLead : Ends → ℕ → ℕ → ℕ → Type 0
+RoundsLead f zero i j = i ≡ j
+RoundsLead f (suc n) i j = (k : ℕ) × (i < k) × (f i ≡ k ∷ []) × RoundsLead f n k j
 
 -- n rounds lead from i to j, and no further one begins there
 pub record AreRoundsFrom (x : Tree) (h : List ℕ) (i n j : ℕ) : Type 0 where
   pub within : j ≤ length h
-  pub lead : (looks : Looks) → Leads (preferred_ends looks h x) n i j
+  pub lead : (looks : Looks) → RoundsLead (preferred_ends looks h x) n i j
   pub last : (looks : Looks) → preferred_ends looks h x j ≡ []

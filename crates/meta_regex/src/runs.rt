@@ -239,7 +239,7 @@ impl Run {
         self.far_end(haystack, end)
     }
 
-    /// The next match from an offset on at which a character may be that isn't ASCII, as far as the table of the class tells.
+    /// The next match from an offset on at which a character may be that isn't ASCII, as far as the table has the characters.
     #[inline(never)]
     fn next_by_characters(&self, haystack: &[u8], from: usize) -> NextRun
         requires { from ≤ length haystack.now }
