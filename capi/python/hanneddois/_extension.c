@@ -2047,7 +2047,7 @@ static inline size_t characters_in(const Inner *inner, size_t bytes)
     return bytes - (size_t)(((first + second) * 0x0101010101010101u) >> 56);
 }
 
-/* Makes the match of the next row, which ends few bytes behind the position. Some of its characters aren't ASCII. */
+/* Makes the match of the next row, which ends few bytes after the position. Its characters may be other than ASCII. */
 static __attribute__((noinline)) PyObject *wide_match(Iterator *self)
 {
     Scan *scan = &self->scan;
