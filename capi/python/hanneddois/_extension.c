@@ -37,6 +37,10 @@ PyAPI_FUNC(int) PyObject_AsReadBuffer(PyObject *, const void **, Py_ssize_t *);
 #define FEW_GROUPS 4
 /* How many matches that were freed are kept, to be made anew. */
 #define MOST_FREE 64
+/* So many short strs are kept: 2 to the power of this. With the table they take some 300 KB. */
+#define KNOWN_BITS 12
+/* The last tuples of groups are kept if their matches have at most so many characters. */
+#define MOST_KEPT 1024
 
 static PyTypeObject *matcher_type, *match_type, *iterator_type;
 /* Of the module _common. */
@@ -1245,18 +1249,37 @@ static __attribute__((noinline)) PyObject *part_of_other(PyObject *object, Py_ss
     return part;
 }
 
-/* The strs of the ASCII characters, each of them NULL until it is first needed. */
-static PyObject *ascii_strs[128];
+/* A short str of ASCII characters that was made: they, and a one in the top bit of the last of them. */
+typedef struct {
+    uint64_t key;
+    PyObject *str;
+} KnownStr;
 
-/* The str of ASCII bytes. Many parts are one character, whose str Python keeps anyway. */
-static inline PyObject *part_of_ascii(const char *bytes, Py_ssize_t length)
+/* Each one is where its key says, and the next one there replaces it. Texts repeat their words, and to look for one of these takes less than
+   to make it anew. A str is kept when it is made the second time, so those that never come again cost little. */
+static KnownStr known_strs[1 << KNOWN_BITS];
+
+static __attribute__((noinline)) PyObject *make_known(KnownStr *known, uint64_t key, const char *bytes, Py_ssize_t length)
 {
-    unsigned char first = length == 1 ? (unsigned char)*bytes : 0x80;
-    if (first >= 0x80)
-        return PyUnicode_FromStringAndSize(bytes, length);
-    if (!ascii_strs[first] && !(ascii_strs[first] = PyUnicode_FromStringAndSize(bytes, 1)))
-        return NULL;
-    return new_reference(ascii_strs[first]);
+    PyObject *made = PyUnicode_FromStringAndSize(bytes, length);
+    if (known->key == key) {
+        known->str = made ? new_reference(made) : NULL;
+        return made;
+    }
+    known->key = key;
+    Py_CLEAR(known->str);
+    return made;
+}
+
+/* The str of the ASCII bytes between two offsets, before which there is nothing that may not be read. The word that is read ends with them. */
+static inline PyObject *part_of_ascii(const char *origin, Py_ssize_t start, Py_ssize_t end)
+{
+    Py_ssize_t length = end - start;
+    if (length < 1 || length > 8 || end < 8)
+        return PyUnicode_FromStringAndSize(origin + start, length);
+    uint64_t key = (word_at((const uint8_t *)origin + end - 8) | (uint64_t)1 << 63) >> 8 * (8 - length);
+    KnownStr *known = &known_strs[key * 0x9e3779b97f4a7c15u >> (64 - KNOWN_BITS)];
+    return known->key == key && known->str ? new_reference(known->str) : make_known(known, key, origin + start, length);
 }
 
 /* The part of a match between two offsets. */
@@ -1266,7 +1289,7 @@ static inline PyObject *part_of(const Match *match, Py_ssize_t start, Py_ssize_t
     if (PyBytes_CheckExact(haystack))
         return PyBytes_FromStringAndSize(match->origin + start, end - start);
     if (match->origin)
-        return part_of_ascii(match->origin + start, end - start);
+        return part_of_ascii(match->origin, start, end);
     return PyUnicode_CheckExact(haystack) ? PyUnicode_Substring(haystack, start, end) : part_of_other(haystack, start, end);
 }
 
@@ -1474,7 +1497,52 @@ static inline int parse_default(const char *name, PyObject *const *args, Py_ssiz
 
 _Static_assert(FEW_GROUPS == 4, "so many objects are passed to PyTuple_Pack");
 
-/* The tuple of 1 to FEW_GROUPS groups. Packing a few objects costs less than setting each. PyTuple_Pack reads as many arguments as its first one says. */
+/* For each number of groups the last tuple that was returned, or NULL. All that these have are short parts and None. If nothing else refers to
+   one any more, it is filled anew, as zip does: that costs less than to make one. */
+static PyObject *last_tuples[FEW_GROUPS + 1];
+/* Whether tuples may be filled anew. From 3.14 on they keep their hash. */
+static int may_refill;
+
+static int find_may_refill(void)
+{
+    PyObject *version = PySys_GetObject("hexversion");
+    long number = version ? PyLong_AsLong(version) : -1;
+    may_refill = number < 0x030e0000;
+    return number < 0 ? -1 : 0;
+}
+
+/* Fills a tuple to which nothing else refers, and takes over the references to the parts. */
+static inline PyObject *refill_tuple(PyObject *tuple, PyObject *const *parts, Py_ssize_t count)
+{
+    for (Py_ssize_t i = 0; i < count; i++)
+        PyTuple_SetItem(tuple, i, parts[i]);
+    return new_reference(tuple);
+}
+
+/* Packing a few objects costs less than setting each. PyTuple_Pack reads as many arguments as its first one says. Takes over the references. */
+static inline PyObject *pack_tuple(PyObject *const *parts, Py_ssize_t count)
+{
+    PyObject *tuple = PyTuple_Pack(count, parts[0], parts[1], parts[2], parts[3]);
+    for (Py_ssize_t i = 0; i < count; i++)
+        Py_DECREF(parts[i]);
+    return tuple;
+}
+
+/* A tuple of 1 to FEW_GROUPS parts of a match, whose references it takes over. A longer match isn't kept in memory. */
+static inline PyObject *tuple_of(const Match *match, PyObject *const *parts, Py_ssize_t count, PyObject *otherwise)
+{
+    PyObject *last = last_tuples[count];
+    if (!may_refill || otherwise != Py_None || match->end - match->start > MOST_KEPT)
+        return pack_tuple(parts, count);
+    if (last && !is_shared(last))
+        return refill_tuple(last, parts, count);
+    PyObject *tuple = pack_tuple(parts, count);
+    last_tuples[count] = tuple ? new_reference(tuple) : NULL;
+    Py_XDECREF(last);
+    return tuple;
+}
+
+/* The tuple of 1 to FEW_GROUPS groups. */
 static inline PyObject *few_groups_of(const Match *match, const Py_ssize_t *offsets, Py_ssize_t count, PyObject *otherwise)
 {
     PyObject *parts[FEW_GROUPS] = {NULL};
@@ -1486,10 +1554,7 @@ static inline PyObject *few_groups_of(const Match *match, const Py_ssize_t *offs
             Py_DECREF(parts[--i]);
         return NULL;
     }
-    PyObject *tuple = PyTuple_Pack(count, parts[0], parts[1], parts[2], parts[3]);
-    for (Py_ssize_t i = 0; i < count; i++)
-        Py_DECREF(parts[i]);
-    return tuple;
+    return tuple_of(match, parts, count, otherwise);
 }
 
 static __attribute__((noinline)) PyObject *many_groups_of(const Match *match, const Py_ssize_t *offsets, Py_ssize_t count, PyObject *otherwise)
@@ -2819,7 +2884,7 @@ PyMODINIT_FUNC PyInit__extension(void)
     match_type = add_type(module, "Match", &match_spec);
     iterator_type = add_type(module, "MatchIterator", &iterator_spec);
     PyTypeObject *streams_type = add_type(module, "StreamSet", &streams_spec);
-    if (!matcher_type || !match_type || !iterator_type || !streams_type || import_common() < 0)
+    if (!matcher_type || !match_type || !iterator_type || !streams_type || import_common() < 0 || find_may_refill() < 0)
         Py_CLEAR(module);
     Py_XDECREF(streams_type);
     return module;

@@ -218,6 +218,21 @@ class Searches(unittest.TestCase):
                                   for match in regex.finditer(haystack)] for regex in (ours, theirs))
                 self.assertEqual(found, wanted, (pattern, haystack))
 
+    def test_parts_that_come_again(self):
+        # Short parts are kept from match to match. They may be next to the start, and may have zero bytes, which a shorter part ends with as well.
+        words = [("ab" * 5)[:length] for length in range(1, 11)] + ["a\0", "a\0\0", "\0", "\0" * 7, "\0" * 8, "\x7f", "\x7f" * 8]
+        pattern = r"([^é])([^é]*)é"
+        ours, theirs = hanneddois.compile(pattern), re.compile(pattern)
+        pick = random.Random(8)
+        for first in words:
+            for others in range(40):
+                haystack = "".join(word + "é" for word in [first, *pick.choices(words, k=others)])
+                found, wanted = ([(match.groups(), match[1], match[2]) for match in regex.finditer(haystack)] for regex in (ours, theirs))
+                self.assertEqual(found, wanted, haystack)
+        # More of them than are kept.
+        haystack = "".join(f"{number:x}é" for number in [*range(9000), *range(9000)])
+        self.assertEqual([match.groups() for match in ours.finditer(haystack)], [match.groups() for match in theirs.finditer(haystack)])
+
     def test_str_from_each_offset(self):
         for pattern in (r"\w", r"", r"\b", r"[0-9]+", r"$", r"^"):
             regex, theirs = hanneddois.compile(pattern), re.compile(pattern)
@@ -331,6 +346,39 @@ class Matches(unittest.TestCase):
             self.assertRaises(IndexError, self.match.group, group)
             self.assertRaises(IndexError, self.match.span, group)
         self.assertRaises(TypeError, self.match.span, 0, 0)
+
+    def test_tuples_of_groups(self):
+        # A tuple that somebody has never changes, and its hash doesn't either.
+        for pattern in (r"(.)", r"(.)(.)", r"(.)(.)(.)", r"(.)(.)(.)(.)", r"(.)(.)(.)(.)(.)", r"(.)|(-)"):
+            regex, theirs = hanneddois.compile(pattern), re.compile(pattern)
+            for haystack in ("abcdefghijkl" * 3, "abcdé" * 6, b"0123456789" * 3):
+                kept, seen = [], {}
+                if isinstance(haystack, bytes):
+                    theirs = re.compile(pattern.encode())
+                wanted = [match.groups() for match in theirs.finditer(haystack)]
+                for number, match in enumerate(regex.finditer(haystack)):
+                    if number % 3 == 0:
+                        kept.append((match.groups(), wanted[number]))
+                    self.assertEqual(match.groups(), wanted[number])
+                    self.assertEqual(seen.setdefault(match.groups(), wanted[number]), wanted[number])
+                self.assertTrue(kept and all(one == other for one, other in kept))
+                self.assertEqual(list(seen), list(dict.fromkeys(wanted)))
+
+    def test_tuples_keep_nothing_large(self):
+        class Default:
+            pass
+
+        match = hanneddois.compile("(a*)(b)?").search("a" * 5000)
+        for _ in range(3):
+            default = Default()
+            reference = weakref.ref(default)
+            self.assertIs(match.groups(default)[1], default)
+            del default
+            self.assertIsNone(reference())
+        for haystack in ("b" + "a" * 5000, "é" + "a" * 5000):
+            part = hanneddois.compile("(a*)(b)?").search(haystack, 1).groups()[0]
+            alone = "".join([part, "a"])
+            self.assertEqual(sys.getrefcount(part), sys.getrefcount(alone))
 
     def test_as_tuple(self):
         pattern, start, end = self.match
