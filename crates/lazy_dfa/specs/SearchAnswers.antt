@@ -149,7 +149,7 @@ FindsDownTo r q result = IfOk result (λ f. (begin : ℕ) × IsFoundDownTo r q (
 
 -- ---- reach
 
--- The same offset bounds what the result depends on: a search of any haystack that has the same bytes up to there finds
+-- No byte from that offset on affects what is found: a search of any haystack that has the same bytes up to there finds
 -- the same.
 pub record IsReachOf (r : Reader) (q : Search) (o : Option (ℕ × ℕ)) (end : ℕ) : Type 0 where
   pub finds : IsFoundUpTo r q o end
@@ -159,7 +159,8 @@ pub record IsReachOf (r : Reader) (q : Search) (o : Option (ℕ × ℕ)) (end : 
 abbrev pub HasReach : Reader → Search → Option (ℕ × ℕ) → Type 0
 HasReach r q o = (end : ℕ) × IsReachOf r q o end
 
--- a search in reverse of any haystack that has the same bytes down to there finds the same
+-- No byte before that offset affects it: a search in reverse of any haystack that has the same bytes down to there finds
+-- the same.
 pub record IsReachBack (r : Reader) (q : Search) (o : Option (ℕ × ℕ)) (begin : ℕ) : Type 0 where
   pub finds : IsFoundDownTo r q o begin
   pub local : (g : List ℕ) → q.end ≤ length g → ((x : ℕ) → begin ≤ x → x ≤ q.end → byte_at g x ≡ byte_at q.haystack x) →
