@@ -255,14 +255,14 @@ module _ (p : Pair) (q : Search) (f g : CacheValue) (m1 m2 n1 n2 : ℕ) (h : Hal
   ends_there = subst (λ (x : Half). MakesHalf p.forward q f g m1 m2 n1 n2 x) is_value ends
 
   pub lies : (q.start ≤ e.offset) × (e.offset ≤ q.end)
-  lies = finds_in_span p.forward g q e ends_there.answer
+  lies = finds_in_span p.forward g q e ends_there.answers.answer
 
   -- so a match from the span's start on is one
   pub lies_behind : (start : ℕ) → start ≡ q.start → start ≤ e.offset
   lies_behind start is = subst (λ (k : ℕ). k ≤ e.offset) (sym is) lies.0
 
   is_found : half_search (reader p.forward) q ≡ found (Some (pair e))
-  is_found = some_is_found (half_search (reader p.forward) q) e (ok_is_told p.forward g q (Some e) ends_there.answer)
+  is_found = some_is_found (half_search (reader p.forward) q) e (ok_is_told p.forward g q (Some e) ends_there.answers.answer)
 
   not_both : (b : Bool) → b ≡ true → b ≡ false → ⊥
   not_both b is not = let never : true ≡ false = sym is ∙ not in absurd (grind (arith, never))
