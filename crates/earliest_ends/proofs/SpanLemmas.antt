@@ -157,8 +157,8 @@ module _ (xs : List Tree) (t : Terminator) (p : Pair) (regex : IsRegexOf xs fals
       late_first : s ≤ e → IsFirstFound r late by_words a.start_unanchored None
       late_first l =
           let there = scan_has_reach r late None (goes_forward xs t p regex) regex.forward.sound inside late_is in
-          there.1.first a.start_unanchored by_words l regex.finds_first refl regex.no_captures refl
-          (reads_alike xs t p regex h bytes words set s there.0 there.1.quiet e)
+          there.1.finds.first a.start_unanchored by_words l regex.finds_first refl regex.no_captures refl
+          (reads_alike xs t p regex h bytes words set s there.0 there.1.finds.quiet e)
 
       abbrev wanted : ℕ → Option (ℕ × ℕ) → Type 0
       wanted k o = o ≡ first (ends_by r late by_words a.start_unanchored k)
@@ -229,8 +229,8 @@ module _ (xs : List Tree) (t : Terminator) (p : Pair) (regex : IsRegexOf xs fals
       -- up to there looks are read alike
       agree : (j : ℕ) → j ≤ c.0 → (k : ℕ) (x : Tree) → slice_get xs k ≡ Some x → AgreeFrom by_bytes by_words s j x
       agree j low k x listed =
-          let past = reached.1.past c refl in
-          trees_alike xs t p regex h bytes words set s reached.0 reached.1.quiet j (omega (arith, low, past)) k x listed
+          let past = reached.1.finds.past c refl in
+          trees_alike xs t p regex h bytes words set s reached.0 reached.1.finds.quiet j (omega (arith, low, past)) k x listed
 
       agree_back : (j : ℕ) → j ≤ c.0 → (k : ℕ) (x : Tree) → slice_get xs k ≡ Some x → AgreeFrom by_words by_bytes s j x
       agree_back j low k x listed l used i from to = sym (agree j low k x listed l used i from to)

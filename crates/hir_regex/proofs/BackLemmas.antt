@@ -113,7 +113,7 @@ module _ (xs : List Tree) (utf8 : Bool) (t : Terminator) (p : Pair) (regex : IsR
   agrees : (k : ℕ) (x : Tree) → slice_get xs k ≡ Some x → AgreeFrom (holds_ascii t q.haystack) looks q.start c.0 x
   agrees k x listed =
       let far = reach xs utf8 t p regex q asked words set (Some c) is in
-      trees_alike xs utf8 t p regex q.haystack asked.bytes words set q.start far.0 far.1.quiet c.0 (far.1.past c refl) k x listed
+      trees_alike xs utf8 t p regex q.haystack asked.bytes words set q.start far.0 far.1.finds.quiet c.0 (far.1.finds.past c refl) k x listed
 
   agrees_back : (k : ℕ) (x : Tree) → slice_get xs k ≡ Some x → AgreeFrom looks (holds_ascii t q.haystack) q.start c.0 x
   agrees_back k x listed l used at above below = sym (agrees k x listed l used at above below)
@@ -122,9 +122,9 @@ module _ (xs : List Tree) (utf8 : Bool) (t : Terminator) (p : Pair) (regex : IsR
   never_quits b x e =
       let far = reach xs utf8 t p regex q asked words set (Some c) is in
       let near = scan_quits_near r back b x e in
-      let past : c.0 < far.0 = far.1.past c refl in
+      let past : c.0 < far.0 = far.1.finds.past c refl in
       let above = near.2 in let below = near.3 in
-      let quiet : is_quit p.forward.quits (byte_at q.haystack x) ≡ false = far.1.quiet x above (omega arith) in
+      let quiet : is_quit p.forward.quits (byte_at q.haystack x) ≡ false = far.1.finds.quiet x above (omega arith) in
       let here : has p.forward.quits b ≡ true = ap (λ quits. has quits b) (sym regex.same_quits) ∙ near.1 in
       let differ : true ≡ false = sym here ∙ ap (is_quit p.forward.quits) (sym near.0) ∙ quiet in cc
 

@@ -85,8 +85,8 @@ module _ (xs : List Tree) (utf8 : Bool) (t : Terminator) (p : Pair) (regex : IsR
       IsFirstFound f q looks name o
   first_by_words o name l named is =
       let r = reach o is in
-      r.1.first name looks l regex.finds_first asked.whole regex.no_captures named
-      (reads_alike xs utf8 t p regex q.haystack asked.bytes words set q.start r.0 r.1.quiet q.end)
+      r.1.finds.first name looks l regex.finds_first asked.whole regex.no_captures named
+      (reads_alike xs utf8 t p regex q.haystack asked.bytes words set q.start r.0 r.1.finds.quiet q.end)
 
   pub all_count : f.between_characters ≡ false → AllCount asks fits_query
   all_count off = elim (cases_Bool utf8) [

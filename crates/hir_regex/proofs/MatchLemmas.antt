@@ -172,8 +172,8 @@ module _ (xs : List Tree) (utf8 : Bool) (t : Terminator) (p : Pair) (regex : IsR
             tree = s.tree;
             listed = s.listed;
             means = same_spans_within (holds_ascii t q.haystack) (holds words t q.haystack) q.haystack q.start c.0 inside s.tree
-                (trees_alike xs utf8 t p regex q.haystack asked.bytes words set q.start far.0 far.1.quiet c.0
-                (far.1.past c refl) c.1 s.tree s.listed)
+                (trees_alike xs utf8 t p regex q.haystack asked.bytes words set q.start far.0 far.1.finds.quiet c.0
+                (far.1.finds.past c refl) c.1 s.tree s.listed)
                 s.place c.0 s.from up (omega arith) s.means;
           }
 

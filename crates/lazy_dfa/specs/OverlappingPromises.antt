@@ -34,10 +34,8 @@ pub record ReportsCall (d : Dfa) (q : Search) (w : OverlappingPosition) (old new
     -- most the state from which the step to that state started.
     pub changes : Changes d (IsMadeOnCall d q w) old new (call_made (reader d) q w)
 
--- All that a call guarantees, from one state of the search to the next. `m1` and `m2` say how many states were made,
--- before and after. `n1` and `n2` say how many NFA states were inserted into sets for them.
-pub record ContinuesOverlapping (d : Dfa) (q : Search) (old new : CacheValue) (m1 m2 n1 n2 : ℕ) (w : OverlappingPosition) (after :
-    OverlappingValue)
+-- what it returns, and the state of the search after it
+pub record AnswersCall (d : Dfa) (q : Search) (new : CacheValue) (w : OverlappingPosition) (after : OverlappingValue)
     (result : Result ⊤ MatchErrorKind) : Type 0 where
   -- it reports the next end of what is left, or an allocation failed, or it gave up
   pub answer : AnswersOverlapping d new q w after result
@@ -47,15 +45,20 @@ pub record ContinuesOverlapping (d : Dfa) (q : Search) (old new : CacheValue) (m
   pub failed : IfErr result (λ e. after ≡ failed_by e)
   -- Only a failed allocation can make it fail if every clear is allowed and what is left ends without an error.
   pub sure : clears_of d.options ≡ None → (rest_of (reader d) q w).rejection ≡ None → IfErr result (λ e. e ≡ NoMemory)
-  -- the cache keeps what it has, or was cleared
-  pub kept : GrowsOrClears d old new
-  -- it reports its progress to the cache, whatever its result is
-  pub reports : ReportsCall d q w old new result
   -- a call that has no start to make and nothing to read reports what comes next
   pub still : call_starts q w ≡ 0 → reads_on (reader d) q w ≡ false → ReportsNext (reader d) q w after result
-  -- such a call leaves the cache as it is
+
+-- what it does to the cache
+pub record CallLeavesCache (d : Dfa) (q : Search) (w : OverlappingPosition) (old new : CacheValue) : Type 0 where
+  -- the cache keeps what it has, or was cleared
+  pub kept : GrowsOrClears d old new
+  -- a call that has no start to make and nothing to read leaves the cache as it is
   pub same : call_starts q w ≡ 0 → reads_on (reader d) q w ≡ false → new ≡ old
-  -- such a call makes nothing
+
+-- What it makes. `m1` and `m2` say how many states were made, before and after. `n1` and `n2` say how many NFA states were
+-- inserted into sets for them.
+pub record CountsCall (d : Dfa) (q : Search) (w : OverlappingPosition) (m1 m2 n1 n2 : ℕ) : Type 0 where
+  -- a call that has no start to make and nothing to read makes nothing
   pub free : call_starts q w ≡ 0 → reads_on (reader d) q w ≡ false → (m2 ≡ m1) × (n2 ≡ n1)
   -- it makes at most `call_made` states, and inserts at most `most_inserts` NFA states into sets for each of them
   pub determinized : m2 ≤ m1 + call_made (reader d) q w

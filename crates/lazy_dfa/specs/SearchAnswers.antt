@@ -1,6 +1,6 @@
 -- The results of half searches over a cache, and the progress that they report.
 use Rattle.std.specs.Prelude.{◌≡◌, ◌⊎◌, ℕ, suc, ◌+◌, ◌-◌, ◌<◌, ◌≤◌, ◌==◌, ◌&&◌, Bool, true, false, min, List, [], ◌∷◌, length, Option, Some}
-use Rattle.std.specs.Prelude.{None, Result, Ok, Err, if◌then◌else◌, nat_lt}
+use Rattle.std.specs.Prelude.{None, Result, Ok, Err, IfOk, if◌then◌else◌, nat_lt}
 use Rattle.std.specs.List.{list_any}
 use Rattle.search_core.specs.Text.{byte_at}
 use Rattle.look_core.specs.declared.look.Look.{Look}
@@ -115,35 +115,54 @@ abbrev pub made_by : Reader → Search → List (ℕ × ℕ) → ℕ
 made_by r q [] = 0
 made_by r q (p ∷ ps) = suc (scan_len_of r q.anchored q.earliest q.haystack p.0 p.1) + made_by r q ps
 
--- ---- reach
+-- ---- what is found, and in which part of the haystack
 
--- The offset after what a forward half search read. There is no quit byte from the byte before the span to there. A
--- search of any haystack that has the same bytes there finds the same. Under leftmost-first it found the first end for
--- each reading of looks that agrees with the ASCII reading up to there, unless it was done before it began. A search
--- that was done before it began read nothing.
-pub record IsReachOf (r : Reader) (q : Search) (o : Option (ℕ × ℕ)) (end : ℕ) : Type 0 where
+-- What a forward half search found, and the offset after what it read: no definition of a scan is needed for this. There
+-- is no quit byte from the byte before the span to that offset. Under leftmost-first it found the first end for each
+-- reading of looks that agrees with the ASCII reading up to there, unless it was done before it began. A search that was
+-- done before it began read nothing.
+pub record IsFoundUpTo (r : Reader) (q : Search) (o : Option (ℕ × ℕ)) (end : ℕ) : Type 0 where
   pub within : end ≤ suc q.end
   pub done : q.end < q.start → (x : ℕ) → q.start ≤ x + 1 → x < end → ⊥
   pub past : (e : ℕ × ℕ) → o ≡ Some e → e.0 < end
   pub quiet : (x : ℕ) → q.start ≤ x + 1 → x < end → is_quit r.quits (byte_at q.haystack x) ≡ false
-  pub local : (g : List ℕ) → q.end ≤ length g → ((x : ℕ) → q.start ≤ x + 1 → x < end → byte_at g x ≡ byte_at q.haystack x) →
-      half_search r (record q { haystack = g }) ≡ found o
   pub first : (name : ℕ) (holds : Look → ℕ → Bool) → q.start ≤ q.end → r.kind ≡ LeftmostFirst → q.earliest ≡ false →
       list_any is_capture r.automaton.states ≡ false →
       start_name r.automaton q.anchored ≡ Some name → ReadsAlike r holds q.haystack q.start q.end (begins_at r q) (end - begins_at r q) →
       IsFirstFound r q holds name o
 
-abbrev pub HasReach : Reader → Search → Option (ℕ × ℕ) → Type 0
-HasReach r q o = (end : ℕ) × IsReachOf r q o end
+-- what a forward half search returned if it succeeded
+abbrev pub FindsUpTo : Reader → Search → Result (Option HalfFound) MatchErrorKind → Type 0
+FindsUpTo r q result = IfOk result (λ f. (end : ℕ) × IsFoundUpTo r q (pair_of f) end)
 
--- The first of the offsets that a half search in reverse read. There is no quit byte from there to the byte after the
--- span. A search of any haystack that has the same bytes there finds the same. A search that was done before it began
--- read nothing.
-pub record IsReachBack (r : Reader) (q : Search) (o : Option (ℕ × ℕ)) (begin : ℕ) : Type 0 where
+-- What a half search in reverse found, and the first of the offsets that it read. There is no quit byte from there to the
+-- byte after the span. A search that was done before it began read nothing.
+pub record IsFoundDownTo (r : Reader) (q : Search) (o : Option (ℕ × ℕ)) (begin : ℕ) : Type 0 where
   pub within : q.start ≤ begin + 1
   pub done : q.end < q.start → (x : ℕ) → begin ≤ x → x ≤ q.end → ⊥
   pub past : (e : ℕ × ℕ) → o ≡ Some e → begin ≤ e.0
   pub quiet : (x : ℕ) → begin ≤ x → x ≤ q.end → is_quit r.quits (byte_at q.haystack x) ≡ false
+
+-- what a half search in reverse returned if it succeeded
+abbrev pub FindsDownTo : Reader → Search → Result (Option HalfFound) MatchErrorKind → Type 0
+FindsDownTo r q result = IfOk result (λ f. (begin : ℕ) × IsFoundDownTo r q (pair_of f) begin)
+
+-- ---- reach
+
+-- No byte from that offset on affects what is found: a search of any haystack that has the same bytes up to there finds
+-- the same.
+pub record IsReachOf (r : Reader) (q : Search) (o : Option (ℕ × ℕ)) (end : ℕ) : Type 0 where
+  pub finds : IsFoundUpTo r q o end
+  pub local : (g : List ℕ) → q.end ≤ length g → ((x : ℕ) → q.start ≤ x + 1 → x < end → byte_at g x ≡ byte_at q.haystack x) →
+      half_search r (record q { haystack = g }) ≡ found o
+
+abbrev pub HasReach : Reader → Search → Option (ℕ × ℕ) → Type 0
+HasReach r q o = (end : ℕ) × IsReachOf r q o end
+
+-- No byte before that offset affects it: a search in reverse of any haystack that has the same bytes down to there finds
+-- the same.
+pub record IsReachBack (r : Reader) (q : Search) (o : Option (ℕ × ℕ)) (begin : ℕ) : Type 0 where
+  pub finds : IsFoundDownTo r q o begin
   pub local : (g : List ℕ) → q.end ≤ length g → ((x : ℕ) → begin ≤ x → x ≤ q.end → byte_at g x ≡ byte_at q.haystack x) →
       half_search r (record q { haystack = g }) ≡ found o
 

@@ -37,28 +37,40 @@ pub record ReportsHalf (d : Dfa) (q : Search) (old new : CacheValue) (result : R
   -- most the state from which the step to that state started.
   pub changes : Changes d (IsMadeBy d q) old new (half_made (reader d) q)
 
--- All that a half search guarantees. `m1` and `m2` say how many states were made, before and after. `n1` and `n2` say
--- how many NFA states were inserted into sets for them.
-pub record MakesHalf (d : Dfa) (q : Search) (old new : CacheValue) (m1 m2 n1 n2 : ℕ)
-    (result : Result (Option HalfFound) MatchErrorKind) : Type 0 where
+-- The function of values that it computes, and when it computes it.
+pub record AnswersHalf (d : Dfa) (q : Search) (old new : CacheValue) (result : Result (Option HalfFound) MatchErrorKind) : Type 0 where
   -- it returns the result of `half_search`, or an allocation failed, or it gave up
   pub answer : Answers d new q result
   -- Only a failed allocation can make it fail if every clear is allowed, the mode is supported, and no quit byte is in
   -- the span or next to it.
   pub sure : clears_of d.options ≡ None → is_supported (reader d).starts_for_each_pattern q.anchored ≡ true →
       HasNoQuitNear (reader d) q.haystack q.start q.end → IfErr result (λ e. e ≡ NoMemory)
+  -- if its path was known, it returns the result of `half_search`
+  pub sure_if_linked : IsLinked d old q → result ≡ reported (half_search (reader d) q)
+
+-- what it does to the cache
+pub record LeavesCache (d : Dfa) (q : Search) (old new : CacheValue) (result : Result (Option HalfFound) MatchErrorKind) : Type 0 where
   -- the cache keeps what it has, or was cleared
   pub kept : GrowsOrClears d old new
   -- if it succeeds and the cache wasn't cleared, its whole path is known now
   pub linked : OnOk result (new.clears ≡ old.clears → old.clears < greatest → IsLinked d new q)
-  -- it reports its progress to the cache, whatever its result is
-  pub reports : ReportsHalf d q old new result
   -- if its path was known, it changes nothing in the cache but the progress
   pub moved : IsLinked d old q → IsMoved old new
+
+-- What it makes. `m1` and `m2` say how many states were made, before and after. `n1` and `n2` say how many NFA states were
+-- inserted into sets for them.
+pub record CountsHalf (d : Dfa) (q : Search) (old : CacheValue) (m1 m2 n1 n2 : ℕ) : Type 0 where
   -- if its path was known, it makes nothing
   pub free : IsLinked d old q → (m2 ≡ m1) × (n2 ≡ n1)
-  -- if its path was known, it returns the result of `half_search`
-  pub sure_if_linked : IsLinked d old q → result ≡ reported (half_search (reader d) q)
   -- it makes at most `half_made` states, and inserts at most `most_inserts` NFA states into sets for each of them
   pub determinized : m2 ≤ m1 + half_made (reader d) q
   pub inserted : n2 ≤ n1 + half_made (reader d) q * most_inserts d
+
+-- all of these
+pub record MakesHalf (d : Dfa) (q : Search) (old new : CacheValue) (m1 m2 n1 n2 : ℕ)
+    (result : Result (Option HalfFound) MatchErrorKind) : Type 0 where
+  pub answers : AnswersHalf d q old new result
+  pub cache : LeavesCache d q old new result
+  pub work : CountsHalf d q old m1 m2 n1 n2
+  -- it reports its progress to the cache, whatever its result is
+  pub reports : ReportsHalf d q old new result

@@ -3,7 +3,7 @@ ghost use Rattle.std.specs.Prelude.{◌≡◌, false, true, Ok, Err, IfOk, IfErr
 ghost use Rattle.lazy_dfa.specs.Caches.{IsCacheOf};
 ghost use Rattle.lazy_dfa.specs.Overlapping.{CanContinue, StopsAt};
 ghost use Rattle.lazy_dfa.specs.OverlappingAnswers.{MakesCall, failed_by};
-ghost use Rattle.lazy_dfa.specs.OverlappingPromises.{ContinuesOverlapping};
+ghost use Rattle.lazy_dfa.specs.OverlappingPromises.{AnswersCall, CallLeavesCache, CountsCall, ReportsCall};
 ghost use Rattle.lazy_dfa.specs.declared.overlapping.overlapping_state.OverlappingPosition.TheVariants.{Fresh, Stopped};
 
 pub(crate) mod overlapping_state;
@@ -174,9 +174,11 @@ impl DFA {
         requires walk { CanContinue self.now cache.old input.now state.old.walk }
         ensures own { IsCacheOf self.now cache.new }
         ensures walk { CanContinue self.now cache.new input.now state.new.walk }
-        ensures call { ContinuesOverlapping self.now input.now cache.old cache.new work.old.determinized work.new.determinized
-            work.old.inserted
-            work.new.inserted state.old.walk state.new result }
+        ensures answer { AnswersCall self.now input.now cache.new state.old.walk state.new result }
+        ensures cache { CallLeavesCache self.now input.now state.old.walk cache.old cache.new }
+        ensures work { CountsCall self.now input.now state.old.walk work.old.determinized work.new.determinized work.old.inserted
+            work.new.inserted }
+        ensures progress { ReportsCall self.now input.now state.old.walk cache.old cache.new result }
     {
         call(self, cache, input, state, work)
     }
@@ -196,9 +198,11 @@ impl DFA {
         requires walk { CanContinue self.now cache.old input.now state.old.walk }
         ensures own { IsCacheOf self.now cache.new }
         ensures walk { CanContinue self.now cache.new input.now state.new.walk }
-        ensures call { ContinuesOverlapping self.now input.now cache.old cache.new work.old.determinized work.new.determinized
-            work.old.inserted
-            work.new.inserted state.old.walk state.new result }
+        ensures answer { AnswersCall self.now input.now cache.new state.old.walk state.new result }
+        ensures cache { CallLeavesCache self.now input.now state.old.walk cache.old cache.new }
+        ensures work { CountsCall self.now input.now state.old.walk work.old.determinized work.new.determinized work.old.inserted
+            work.new.inserted }
+        ensures progress { ReportsCall self.now input.now state.old.walk cache.old cache.new result }
     {
         call(self, cache, input, state, work)
     }

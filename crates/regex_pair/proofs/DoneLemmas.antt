@@ -50,16 +50,18 @@ module _ (d : Dfa) (q : Search) (v : CacheValue) (m n : ℕ) (past : q.end < q.s
 
   pub no_half : MakesHalf d q v v m m n n (answer None)
   no_half = record {
-    answer = inl (sym (ap reported (scan_done (reader d) q past)));
-    sure = λ none supported quiet. tt;
-    kept = untouched_grows d v;
-    linked = λ same less. subst (λ (ps : List (ℕ × ℕ)). AreLinked d v q ps) (sym no_passes) (λ k p in_it. absurd (omega (arith, in_it)));
+    answers = record {
+      answer = inl (sym (ap reported (scan_done (reader d) q past)));
+      sure = λ none supported quiet. tt;
+      sure_if_linked = λ linked. sym (ap reported (scan_done (reader d) q past));
+    };
+    cache = record {
+      kept = untouched_grows d v;
+      linked = λ same less. subst (λ (ps : List (ℕ × ℕ)). AreLinked d v q ps) (sym no_passes) (λ k p in_it. absurd (omega (arith, in_it)));
+      moved = λ linked. refl;
+    };
+    work = record { free = λ linked. (refl, refl); determinized = omega arith; inserted = omega arith };
     reports = tells_nothing;
-    moved = λ linked. refl;
-    free = λ linked. (refl, refl);
-    sure_if_linked = λ linked. sym (ap reported (scan_done (reader d) q past));
-    determinized = omega arith;
-    inserted = omega arith;
   }
 
 module _ (p : Pair) (q : Search) (c : PairCache) (m n : ℕ) (past : q.end < q.start) where

@@ -48,19 +48,19 @@ module _ (p : Pair) (q : Search) (f g r : CacheValue) (m1 m2 n1 n2 : ℕ) (h : H
 
   pub tells_there : MakesMatch p q (record { forward = f; reverse = r }) (record { forward = g; reverse = r }) m1 m2 n1 n2 (is_some_half h)
   tells_there = record {
-    answer = answers_there made.answer;
-    sure = λ none supported quiet. if_err_some h (made.sure none supported quiet);
-    kept = made.kept;
+    answer = answers_there made.answers.answer;
+    sure = λ none supported quiet. if_err_some h (made.answers.sure none supported quiet);
+    kept = made.cache.kept;
     untouched = refl;
-    linked = on_some h (g.clears ≡ f.clears → f.clears < greatest → IsLinked p.forward g asked) made.linked;
+    linked = on_some h (g.clears ≡ f.clears → f.clears < greatest → IsLinked p.forward g asked) made.cache.linked;
     is_reported = on_some h (g.clears ≡ f.clears → f.clears < greatest →
         progress_of g ≡ progress_by (reader p.forward) asked (progress_of f) (scans_of (reader p.forward) asked)) made.reports.reported;
-    reports = record { half = h; answer = refl; asked = made.answer; forward = made.reports; reverse = refl };
-    moved = made.moved;
-    free = made.free;
-    sure_if_linked = λ linked. told_there (made.sure_if_linked linked);
-    determinized = made.determinized;
-    inserted = made.inserted;
+    reports = record { half = h; answer = refl; asked = made.answers.answer; forward = made.reports; reverse = refl };
+    moved = made.cache.moved;
+    free = made.work.free;
+    sure_if_linked = λ linked. told_there (made.answers.sure_if_linked linked);
+    determinized = made.work.determinized;
+    inserted = made.work.inserted;
   }
 
 pub reports : (p : Pair) (q s : Search) (f g r : CacheValue) (old : PairCache) (m1 m2 n1 n2 : ℕ) (result : Result Bool MatchErrorKind) →

@@ -84,7 +84,7 @@ module _ (p : Pair) (q : Search) (old new : PairCache) (m1 m2 n1 n2 : ℕ) (h : 
   answers_there (inr (inr g)) = inr (inr (g.0, ap (λ (x : Half). by_end q x) g.1, gives_up_forward g.2))
 
   is_answer : (f : Option HalfFound) → h ≡ Ok f → h ≡ reported (half_search (reader p.forward) q)
-  is_answer f is = is ∙ ok_is_told p.forward new.forward q f (subst (λ (x : Half). Answers p.forward new.forward q x) is ends.answer)
+  is_answer f is = is ∙ ok_is_told p.forward new.forward q f (subst (λ (x : Half). Answers p.forward new.forward q x) is ends.answers.answer)
 
   never_back : (f : Option HalfFound) → h ≡ Ok f → (e : ℕ × ℕ) → GoesBack p q e → ⊥
   never_back f is = never (is_answer f is)
@@ -98,16 +98,16 @@ module _ (p : Pair) (q : Search) (old new : PairCache) (m1 m2 n1 n2 : ℕ) (h : 
 
   pub stops : MakesPair p q old new m1 m2 n1 n2 (by_end q h)
   stops = record {
-    answer = answers_there ends.answer;
-    sure = λ none none_back supported quiet quiet_back. if_err_end q h (ends.sure none supported quiet);
+    answer = answers_there ends.answers.answer;
+    sure = λ none none_back supported quiet quiet_back. if_err_end q h (ends.answers.sure none supported quiet);
     kept = record {
-      forward = ends.kept;
+      forward = ends.cache.kept;
       reverse = subst (λ (v : CacheValue). GrowsOrClears p.reverse old.reverse v) (sym same)
           (untouched_grows p.reverse old.reverse);
     };
     untouched = λ none. same;
     linked = on_end q h (new.forward.clears ≡ old.forward.clears → old.forward.clears < greatest → IsLinked p.forward new.forward q)
-        (new.forward.clears ≡ old.forward.clears → old.forward.clears < greatest → IsLinked p.forward new.forward q) (λ l. l) ends.linked;
+        (new.forward.clears ≡ old.forward.clears → old.forward.clears < greatest → IsLinked p.forward new.forward q) (λ l. l) ends.cache.linked;
     back_linked = on_value q h (new.reverse.clears ≡ old.reverse.clears → old.reverse.clears < greatest → IsBackLinked p new.reverse q)
         (λ f is kept less e there. absurd (never_back f is e there));
     is_reported = on_end q h (new.forward.clears ≡ old.forward.clears → old.forward.clears < greatest →
@@ -119,16 +119,16 @@ module _ (p : Pair) (q : Search) (old new : PairCache) (m1 m2 n1 n2 : ℕ) (h : 
         progress_of new.reverse ≡ progress_by (reader p.reverse) (back_from q e.0) (progress_of old.reverse)
         (scans_of (reader p.reverse) (back_from q e.0)))
         (λ f is kept less e there. absurd (never_back f is e there));
-    reports = stops_told h (λ f is. joined_there (is_answer f is)) ends.answer never_back ends.reports;
+    reports = stops_told h (λ f is. joined_there (is_answer f is)) ends.answers.answer never_back ends.reports;
     moved = λ linked. record {
-      forward = ends.moved linked.forward;
+      forward = ends.cache.moved linked.forward;
       reverse =
           subst (λ (v : CacheValue). IsMoved old.reverse v) (sym same) refl;
     };
-    free = λ linked. ends.free linked.forward;
-    sure_if_linked = λ linked. joined_there (ends.sure_if_linked linked.forward);
-    determinized = let few = ends.determinized in omega (arith, few);
-    inserted = let few = ends.inserted in omega (arith, few);
+    free = λ linked. ends.work.free linked.forward;
+    sure_if_linked = λ linked. joined_there (ends.answers.sure_if_linked linked.forward);
+    determinized = let few = ends.work.determinized in omega (arith, few);
+    inserted = let few = ends.work.inserted in omega (arith, few);
   }
 
 -- ---- when it goes back
@@ -208,37 +208,37 @@ module _ (p : Pair) (q : Search) (e : HalfFound) (there : GoesBack p q (pair e))
     told_back t same less x other = subst IsTold (only x other) (t same less)
 
     few_made : m3 ≤ m1 + (half_made (reader p.forward) q + back_made p q)
-    few_made = let up = ends.determinized in let is_reverse = made.determinized in
+    few_made = let up = ends.work.determinized in let is_reverse = made.work.determinized in
         subst (λ (k : ℕ). m3 ≤ m1 + (half_made (reader p.forward) q + k)) (sym back_count) (omega (arith, up, is_reverse))
 
     few_put : n3 ≤ n1 + (half_made (reader p.forward) q * most_inserts p.forward + back_made p q * most_inserts p.reverse)
-    few_put = let up = ends.inserted in let is_reverse = made.inserted in
+    few_put = let up = ends.work.inserted in let is_reverse = made.work.inserted in
         subst (λ (k : ℕ). n3 ≤ n1 + (half_made (reader p.forward) q * most_inserts p.forward + k * most_inserts p.reverse)) (sym back_count)
         (omega (arith, up, is_reverse))
 
     goes : MakesPair p q old new m1 m3 n1 n3 (with_half e b)
     goes = record {
-      answer = answers_back made.answer;
+      answer = answers_back made.answers.answer;
       sure = λ none none_back supported quiet quiet_back. if_err_back e b
-          (made.sure none_back refl (near (finds_in_span p.forward new.forward q e ends.answer).1 quiet_back));
-      kept = record { forward = ends.kept; reverse = made.kept };
+          (made.answers.sure none_back refl (near (finds_in_span p.forward new.forward q e ends.answers.answer).1 quiet_back));
+      kept = record { forward = ends.cache.kept; reverse = made.cache.kept };
       untouched = λ none. absurd (none (pair e) there);
       linked = always_back e b (new.forward.clears ≡ old.forward.clears → old.forward.clears < greatest →
-          IsLinked p.forward new.forward q) ends.linked;
+          IsLinked p.forward new.forward q) ends.cache.linked;
       back_linked = on_back e b (new.reverse.clears ≡ old.reverse.clears → old.reverse.clears < greatest →
           IsLinked p.reverse new.reverse back)
-          (new.reverse.clears ≡ old.reverse.clears → old.reverse.clears < greatest → IsBackLinked p new.reverse q) linked_back made.linked;
+          (new.reverse.clears ≡ old.reverse.clears → old.reverse.clears < greatest → IsBackLinked p new.reverse q) linked_back made.cache.linked;
       is_reported = always_back e b (new.forward.clears ≡ old.forward.clears → old.forward.clears < greatest →
           progress_of new.forward ≡ progress_by (reader p.forward) q (progress_of old.forward) (scans_of (reader p.forward) q))
           ends.reports.reported;
       back_told = on_back e b (new.reverse.clears ≡ old.reverse.clears → old.reverse.clears < greatest → IsTold (pair e))
           (new.reverse.clears ≡ old.reverse.clears → old.reverse.clears < greatest → (x : ℕ × ℕ) → GoesBack p q x →
           IsTold x) told_back made.reports.reported;
-      reports = tells_start e b refl there made.answer ends.reports made.reports;
-      moved = λ linked. record { forward = ends.moved linked.forward; reverse = made.moved (linked.back (pair e) there) };
-      free = λ linked. let up = ends.free linked.forward in let is_reverse = made.free (linked.back (pair e) there) in
+      reports = tells_start e b refl there made.answers.answer ends.reports made.reports;
+      moved = λ linked. record { forward = ends.cache.moved linked.forward; reverse = made.cache.moved (linked.back (pair e) there) };
+      free = λ linked. let up = ends.work.free linked.forward in let is_reverse = made.work.free (linked.back (pair e) there) in
           (is_reverse.0 ∙ up.0, is_reverse.1 ∙ up.1);
-      sure_if_linked = λ linked. ap (λ (x : Half). with_half e x) (made.sure_if_linked (linked.back (pair e) there)) ∙ back_joined;
+      sure_if_linked = λ linked. ap (λ (x : Half). with_half e x) (made.answers.sure_if_linked (linked.back (pair e) there)) ∙ back_joined;
       determinized = few_made;
       inserted = few_put;
     }
@@ -255,14 +255,14 @@ module _ (p : Pair) (q : Search) (f g : CacheValue) (m1 m2 n1 n2 : ℕ) (h : Hal
   ends_there = subst (λ (x : Half). MakesHalf p.forward q f g m1 m2 n1 n2 x) is_value ends
 
   pub lies : (q.start ≤ e.offset) × (e.offset ≤ q.end)
-  lies = finds_in_span p.forward g q e ends_there.answer
+  lies = finds_in_span p.forward g q e ends_there.answers.answer
 
   -- so a match from the span's start on is one
   pub lies_behind : (start : ℕ) → start ≡ q.start → start ≤ e.offset
   lies_behind start is = subst (λ (k : ℕ). k ≤ e.offset) (sym is) lies.0
 
   is_found : half_search (reader p.forward) q ≡ found (Some (pair e))
-  is_found = some_is_found (half_search (reader p.forward) q) e (ok_is_told p.forward g q (Some e) ends_there.answer)
+  is_found = some_is_found (half_search (reader p.forward) q) e (ok_is_told p.forward g q (Some e) ends_there.answers.answer)
 
   not_both : (b : Bool) → b ≡ true → b ≡ false → ⊥
   not_both b is not = let never : true ≡ false = sym is ∙ not in absurd (grind (arith, never))

@@ -24,10 +24,10 @@ use Rattle.lazy_dfa.specs.Scans.{next_offset, scan, first_value}
 use Rattle.lazy_dfa.specs.Readers.{Reader, found}
 use Rattle.lazy_dfa.specs.HalfSearchLaws.{begins_at, scans_made, units_in_scans, HasNoQuitNear}
 use Rattle.lazy_dfa.specs.HalfSearches.{half_search}
-use Rattle.lazy_dfa.specs.SearchAnswers.{half_of, pair_of, reported, GivesUpIn, at_start, at_unit, GivesUpAmong, Answers, progress_of}
+use Rattle.lazy_dfa.specs.SearchAnswers.{pair_of, reported, GivesUpIn, at_start, at_unit, GivesUpAmong, Answers, progress_of}
 use Rattle.lazy_dfa.specs.SearchAnswers.{progress_by}
-use Rattle.lazy_dfa.specs.SearchAnswers.{made_by, HasReach, HasReachBack}
-use Rattle.lazy_dfa.specs.SearchPromises.{MakesHalf, half_made}
+use Rattle.lazy_dfa.specs.SearchAnswers.{made_by, FindsDownTo, FindsUpTo, IsFoundDownTo, IsFoundUpTo}
+use Rattle.lazy_dfa.specs.SearchPromises.{AnswersHalf, CountsHalf, LeavesCache, ReportsHalf, half_made}
 use Rattle.lazy_dfa.specs.Steps.{most_inserts}
 use Rattle.lazy_dfa.specs.Changes.{Changes, IsMadeBy}
 use Rattle.lazy_dfa.proofs.Courses.AnswerLemmas.{ok_is_told, ok_is_found}
@@ -106,7 +106,7 @@ module _ (d : Dfa) (v : CacheValue) (none : clears_of d.options ≡ None) where
 
 -- ---- clauses
 
-module _ (d : Dfa) (q : Search) (old new : CacheValue) (m1 m2 n1 n2 : ℕ) (result : Result (Option HalfFound) MatchErrorKind)
+module _ {d : Dfa} {q : Search} {old new : CacheValue} {m1 m2 n1 n2 : ℕ} {result : Result (Option HalfFound) MatchErrorKind}
     (made : MakesSearch d q old new m1 m2 n1 n2 result) where
   abbrev HasNoMemory : Result (Option HalfFound) MatchErrorKind → Type 0
   HasNoMemory x = IfErr x (λ e. e ≡ NoMemory)
@@ -173,43 +173,39 @@ module _ (d : Dfa) (q : Search) (old new : CacheValue) (m1 m2 n1 n2 : ℕ) (resu
       since (Err e) (inl same) = absurd (other same.1)
       since (Err e) (inr c) = c.1
 
-  pub makes_half : MakesHalf d q old new m1 m2 n1 n2 result
-  makes_half = record {
-    answer = made.answer;
-    sure = is_sure;
-    kept = made.kept;
-    linked = is_linked_then;
-    reports = record { reported = is_told_then; left_progress = is_left_then; told_since = is_told_since; changes = few_changes };
-    moved = λ linked. (made.free linked).0;
+  pub answers_half : AnswersHalf d q old new result
+  answers_half = record { answer = made.answer; sure = is_sure; sure_if_linked = λ linked. (made.free linked).3 }
+
+  pub leaves_cache : LeavesCache d q old new result
+  leaves_cache = record { kept = made.kept; linked = is_linked_then; moved = λ linked. (made.free linked).0 }
+
+  pub counts_half : CountsHalf d q old m1 m2 n1 n2
+  counts_half = record {
     free = λ linked. ((made.free linked).1, (made.free linked).2);
-    sure_if_linked = λ linked. (made.free linked).3;
     determinized = few_determinized;
     inserted = few_inserted;
   }
 
-half_of_pair : (f : Option HalfFound) → f ≡ half_of (pair_of f)
-half_of_pair None = refl
-half_of_pair (Some m) = refl
+  pub reports_half : ReportsHalf d q old new result
+  reports_half = record { reported = is_told_then; left_progress = is_left_then; told_since = is_told_since; changes = few_changes }
 
--- how far a result reached, forward or in reverse
-reaches_where : (P : Option (ℕ × ℕ) → Type 0) (d : Dfa) (q : Search) (new : CacheValue)
+-- what a result that is no error found, forward or in reverse
+found_where : (P : Option (ℕ × ℕ) → Type 0) (d : Dfa) (q : Search) (new : CacheValue)
     (result : Result (Option HalfFound) MatchErrorKind) →
     ((o : Option (ℕ × ℕ)) → half_search (reader d) q ≡ found o → P o) → Answers d new q result →
-    IfOk result (λ f. (o : Option (ℕ × ℕ)) × (f ≡ half_of o) × P o)
-reaches_where P d q new (Err e) reach answers = tt
-reaches_where P d q new (Ok f) reach answers =
-    let is : half_search (reader d) q ≡ found (pair_of f) =
-    ok_is_found (half_search (reader d) q) f (ok_is_told f (reported (half_search (reader d) q))
-    (λ (x : ℕ). GivesUpAmong d new q x (scans_of (reader d) q)) answers) in
-    (pair_of f, half_of_pair f, reach (pair_of f) is)
+    IfOk result (λ f. P (pair_of f))
+found_where P d q new (Err e) finds answers = tt
+found_where P d q new (Ok f) finds answers =
+    finds (pair_of f) (ok_is_found (half_search (reader d) q) f (ok_is_told f (reported (half_search (reader d) q))
+    (λ (x : ℕ). GivesUpAmong d new q x (scans_of (reader d) q)) answers))
 
 module _ (d : Dfa) (q : Search) (new : CacheValue) (result : Result (Option HalfFound) MatchErrorKind) (made : IsDfa d)
     (within : q.end ≤ length q.haystack)
     (answers : Answers d new q result) where
-  pub reaches : d.nfa.automaton.reverse ≡ false → IfOk result (λ f. (o : Option (ℕ × ℕ)) × (f ≡ half_of o) × HasReach (reader d) q o)
-  reaches up = reaches_where (HasReach (reader d) q) d q new result (λ o is. scan_has_reach (reader d) q o up made.sound within is) answers
+  pub finds_up_to : d.nfa.automaton.reverse ≡ false → FindsUpTo (reader d) q result
+  finds_up_to up = found_where (λ o. (end : ℕ) × IsFoundUpTo (reader d) q o end) d q new result
+      (λ o is. let reach = scan_has_reach (reader d) q o up made.sound within is in (reach.0, reach.1.finds)) answers
 
-  pub reaches_back : d.nfa.automaton.reverse ≡ true → IfOk result (λ f. (o : Option (ℕ × ℕ)) × (f ≡ half_of o) ×
-      HasReachBack (reader d) q o)
-  reaches_back back = reaches_where (HasReachBack (reader d) q) d q new result
-      (λ o is. scan_has_reach_back (reader d) q o back within is) answers
+  pub finds_down_to : d.nfa.automaton.reverse ≡ true → FindsDownTo (reader d) q result
+  finds_down_to back = found_where (λ o. (begin : ℕ) × IsFoundDownTo (reader d) q o begin) d q new result
+      (λ o is. let reach = scan_has_reach_back (reader d) q o back within is in (reach.0, reach.1.finds)) answers

@@ -13,7 +13,7 @@ use Rattle.lazy_dfa.specs.Scans.{start_name}
 use Rattle.lazy_dfa.specs.Readers.{Reader, found}
 use Rattle.lazy_dfa.specs.HalfSearchLaws.{IsReached, IsInReach, begins_at, scan_len, ReadsAlike}
 use Rattle.lazy_dfa.specs.HalfSearches.{first_offset, half_search}
-use Rattle.lazy_dfa.specs.SearchAnswers.{IsReachOf, HasReach, IsReachBack, HasReachBack}
+use Rattle.lazy_dfa.specs.SearchAnswers.{IsFoundUpTo, IsFoundDownTo, IsReachOf, HasReach, IsReachBack, HasReachBack}
 use Rattle.lazy_dfa.proofs.HalfSearches.FoundLemmas.{scan_finds_first}
 use Rattle.lazy_dfa.proofs.HalfSearches.IntervalReachLemmas.{scan_by_reach, scan_is_quiet, scan_place_is_reached, reach_is_near}
 use Rattle.lazy_dfa.proofs.HalfSearches.ReachLemmas.{scan_few}
@@ -86,14 +86,12 @@ module _ (r : Reader) (q : Search) (o : Option (ℕ × ℕ)) (up : r.automaton.r
   abbrev len : ℕ
   len = scan_len r q
 
-  reach_begun : q.start ≤ q.end → IsReachOf r q o (q.start + len)
-  reach_begun fits = record {
+  found_begun : q.start ≤ q.end → IsFoundUpTo r q o (q.start + len)
+  found_begun fits = record {
     within = let few = scan_few r q in omega (arith, fits, few);
     done = λ over x from to. absurd (omega (arith, fits, over));
     past = λ e same. below_reach r.automaton.reverse q.start q.end len e.0 up (scan_place_is_reached r q e (is ∙ ap found same)).1;
     quiet = λ x from to. scan_is_quiet r q o within is x (fits, reached_forward r.automaton.reverse q.start q.end len x up from to);
-    local = λ g in_g same. same_elsewhere r q o within is g in_g
-        (λ x there. same x (reach_is_near r q x there).0 (below_reach r.automaton.reverse q.start q.end len x up there.1));
     first = λ name holds begun leftmost late plain named alike.
         scan_finds_first r q name sound.named fits within named (start_is_state r.automaton q.anchored name sound named) leftmost late plain
         holds
@@ -101,15 +99,24 @@ module _ (r : Reader) (q : Search) (o : Option (ℕ × ℕ)) (up : r.automaton.r
         (same_length r.automaton.reverse q.start q.end len up) alike) o is;
   }
 
-  reach_done : q.end < q.start → IsReachOf r q o 0
-  reach_done over = record {
+  found_done : q.end < q.start → IsFoundUpTo r q o 0
+  found_done over = record {
     within = omega arith;
     done = λ past x from to. absurd (omega (arith, to));
     past = λ e same. nothing e (e.0 < 0) (none_is r q o is over ∙ same);
     quiet = λ x from to. absurd (omega (arith, to));
-    local = λ g in_g same. done_anywhere r q o is over g;
     first = λ name holds begun leftmost late plain named alike. absurd (omega (arith, over, begun));
   }
+
+  reach_begun : q.start ≤ q.end → IsReachOf r q o (q.start + len)
+  reach_begun fits = record {
+    finds = found_begun fits;
+    local = λ g in_g same. same_elsewhere r q o within is g in_g
+        (λ x there. same x (reach_is_near r q x there).0 (below_reach r.automaton.reverse q.start q.end len x up there.1));
+  }
+
+  reach_done : q.end < q.start → IsReachOf r q o 0
+  reach_done over = record { finds = found_done over; local = λ g in_g same. done_anywhere r q o is over g }
 
   pub scan_has_reach : HasReach r q o
   scan_has_reach = ⊎_elim
@@ -119,8 +126,8 @@ module _ (r : Reader) (q : Search) (o : Option (ℕ × ℕ)) (up : r.automaton.r
 
 module _ (r : Reader) (q : Search) (o : Option (ℕ × ℕ)) (back : r.automaton.reverse ≡ true)
     (within : q.end ≤ length q.haystack) (is : half_search r q ≡ found o) where
-  back_begun : q.start ≤ q.end → IsReachBack r q o (q.end - scan_len r q)
-  back_begun fits = record {
+  back_found : q.start ≤ q.end → IsFoundDownTo r q o (q.end - scan_len r q)
+  back_found fits = record {
     within = let few = scan_few r q in omega (arith, fits, few);
     done = λ over x from to. absurd (omega (arith, fits, over));
     past = λ e same. above_reach r.automaton.reverse q.start q.end (scan_len r q) e.0 back
@@ -130,18 +137,25 @@ module _ (r : Reader) (q : Search) (o : Option (ℕ × ℕ)) (back : r.automaton
       reached_reverse r.automaton.reverse q.start q.end
           (scan_len r q) x back from to,
     );
+  }
+
+  back_found_done : q.end < q.start → IsFoundDownTo r q o q.start
+  back_found_done over = record {
+    within = omega arith;
+    done = λ past x from to. absurd (omega (arith, over, from, to));
+    past = λ e same. nothing e (q.start ≤ e.0) (none_is r q o is over ∙ same);
+    quiet = λ x from to. absurd (omega (arith, over, from, to));
+  }
+
+  back_begun : q.start ≤ q.end → IsReachBack r q o (q.end - scan_len r q)
+  back_begun fits = record {
+    finds = back_found fits;
     local = λ g in_g same. same_elsewhere r q o within is g in_g
         (λ x there. same x (above_reach r.automaton.reverse q.start q.end (scan_len r q) x back there.1) (reach_is_near r q x there).1);
   }
 
   back_done : q.end < q.start → IsReachBack r q o q.start
-  back_done over = record {
-    within = omega arith;
-    done = λ past x from to. absurd (omega (arith, over, from, to));
-    past = λ e same. nothing e (q.start ≤ e.0) (none_is r q o is over ∙ same);
-    quiet = λ x from to. absurd (omega (arith, over, from, to));
-    local = λ g in_g same. done_anywhere r q o is over g;
-  }
+  back_done over = record { finds = back_found_done over; local = λ g in_g same. done_anywhere r q o is over g }
 
   pub scan_has_reach_back : HasReachBack r q o
   scan_has_reach_back = ⊎_elim

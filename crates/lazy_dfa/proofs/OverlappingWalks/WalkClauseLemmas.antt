@@ -16,7 +16,7 @@ use Rattle.lazy_dfa.specs.SearchAnswers.{progress_of}
 use Rattle.lazy_dfa.specs.Overlapping.{rest_of, value_past, OverlappingValue}
 use Rattle.lazy_dfa.specs.OverlappingAnswers.{call_offset, result_left, GivesUpOn, at_start, at_unit, AnswersOverlapping, progress_by_call}
 use Rattle.lazy_dfa.specs.OverlappingAnswers.{MakesCall}
-use Rattle.lazy_dfa.specs.OverlappingPromises.{ContinuesOverlapping}
+use Rattle.lazy_dfa.specs.OverlappingPromises.{AnswersCall, CallLeavesCache, CountsCall, ReportsCall}
 use Rattle.lazy_dfa.proofs.CacheChanges.LinkedLemmas.{not_cleared}
 use Rattle.lazy_dfa.proofs.Courses.SearchClauseLemmas.{has_room}
 use Rattle.lazy_dfa.proofs.OverlappingWalks.WalkToldLemmas.{call_is_left, call_is_told_since}
@@ -46,8 +46,8 @@ module _ (d : Dfa) (q : Search) (v : CacheValue) (w : OverlappingPosition) (afte
   sure_by result no_refusal (inr (inr g)) = absurd (never_gives_up g.0 g.2)
 
 -- what a call does is what it guarantees
-module _ (d : Dfa) (q : Search) (old new : CacheValue) (m1 m2 n1 n2 : ℕ) (w : OverlappingPosition) (after : OverlappingValue)
-    (result : Result ⊤ MatchErrorKind) (made : MakesCall d q old new m1 m2 n1 n2 w after result) where
+module _ {d : Dfa} {q : Search} {old new : CacheValue} {m1 m2 n1 n2 : ℕ} {w : OverlappingPosition} {after : OverlappingValue}
+    {result : Result ⊤ MatchErrorKind} (made : MakesCall d q old new m1 m2 n1 n2 w after result) where
   told_then : (x : Result ⊤ MatchErrorKind) →
       OnOk x ((CacheGrows d old new × (progress_of new ≡ progress_by_call (reader d) q w (progress_of old))) ⊎ HasCleared old new) →
       OnOk x (new.clears ≡ old.clears → old.clears < greatest → progress_of new ≡ progress_by_call (reader d) q w (progress_of old))
@@ -55,22 +55,29 @@ module _ (d : Dfa) (q : Search) (old new : CacheValue) (m1 m2 n1 n2 : ℕ) (w : 
   told_then (Ok u) (inr cleared) = λ same less. absurd (not_cleared old new cleared same less)
   told_then (Err e) t = tt
 
-  pub walks_on : ContinuesOverlapping d q old new m1 m2 n1 n2 w after result
-  walks_on = record {
+  pub answers_call : AnswersCall d q new w after result
+  answers_call = record {
     answer = made.answer;
     ends = made.ends;
     failed = made.failed;
     sure = λ none no_refusal. sure_by d q new w after none result no_refusal made.answer;
-    kept = made.kept;
-    reports = record {
-      reported = told_then result made.reported;
-      left_progress = call_is_left d q w old new result made.anew;
-      told_since = λ other. call_is_told_since d q w old new result made.anew other;
-      changes = made.changes;
-    };
     still = made.still;
-    same = λ none reads. (made.quiet none reads).0;
+  }
+
+  pub call_leaves_cache : CallLeavesCache d q w old new
+  call_leaves_cache = record { kept = made.kept; same = λ none reads. (made.quiet none reads).0 }
+
+  pub counts_call : CountsCall d q w m1 m2 n1 n2
+  counts_call = record {
     free = λ none reads. ((made.quiet none reads).1, (made.quiet none reads).2);
     determinized = made.determinized;
     inserted = made.inserted;
+  }
+
+  pub reports_call : ReportsCall d q w old new result
+  reports_call = record {
+    reported = told_then result made.reported;
+    left_progress = call_is_left d q w old new result made.anew;
+    told_since = λ other. call_is_told_since d q w old new result made.anew other;
+    changes = made.changes;
   }

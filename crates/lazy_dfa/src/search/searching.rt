@@ -1,11 +1,11 @@
 //! Half searches: one scan, or several in turn.
-ghost use Rattle.std.specs.Prelude.{◌≡◌, ℕ, Option, false, true, IfOk};
+ghost use Rattle.std.specs.Prelude.{◌≡◌, false, true};
 ghost use Rattle.search_types.specs.Inputs.{IsWithin};
 ghost use Rattle.lazy_dfa.specs.Caches.{IsCacheOf};
 ghost use Rattle.lazy_dfa.specs.Dfas.{IsDfa, reader};
 ghost use Rattle.lazy_dfa.specs.MadeScans.{MakesSearch};
-ghost use Rattle.lazy_dfa.specs.SearchAnswers.{half_of, HasReach, HasReachBack};
-ghost use Rattle.lazy_dfa.specs.SearchPromises.{MakesHalf};
+ghost use Rattle.lazy_dfa.specs.SearchAnswers.{FindsDownTo, FindsUpTo};
+ghost use Rattle.lazy_dfa.specs.SearchPromises.{AnswersHalf, CountsHalf, LeavesCache, ReportsHalf};
 
 use crate::automaton::dfa::{Cache, DFA};
 use crate::search::passing::scan;
@@ -150,8 +150,9 @@ impl DFA {
     /// progress then began at the byte where it was at that clear.
     ///
     /// A match, or none, comes with an offset up to which the search read. From the byte before the span up to this offset there
-    /// is no quit byte. Any haystack with the same bytes there gives the same answer. Under leftmost-first, the result is the
-    /// first end for each interpretation of looks that agrees with the one by ASCII bytes up to there.
+    /// is no quit byte. Under leftmost-first, the result is the first end for each interpretation of looks that agrees with the
+    /// one by ASCII bytes up to there. Any haystack with the same bytes there gives the same answer
+    /// ([`scans_reach_a_place`](crate::laws::reach_laws::scans_reach_a_place)).
     pub fn try_search_fwd<L: Ledger, M: Ledger>(
         &self,
         cache: &mut Cache,
@@ -161,9 +162,12 @@ impl DFA {
         requires own { IsCacheOf self.now cache.old }
         requires is_forward { self.now.nfa.automaton.reverse ≡ false }
         ensures own { IsCacheOf self.now cache.new }
-        ensures search { MakesHalf self.now input.now cache.old cache.new work.old.determinized work.new.determinized work.old.inserted
-            work.new.inserted result }
-        ensures reach { IfOk result (λ found. (o : Option (ℕ × ℕ)) × (found ≡ half_of o) × HasReach (reader self.now) input.now o) }
+        ensures found { FindsUpTo (reader self.now) input.now result }
+        ensures answer { AnswersHalf self.now input.now cache.old cache.new result }
+        ensures cache { LeavesCache self.now input.now cache.old cache.new result }
+        ensures work { CountsHalf self.now input.now cache.old work.old.determinized work.new.determinized work.old.inserted
+            work.new.inserted }
+        ensures progress { ReportsHalf self.now input.now cache.old cache.new result }
     {
         search(self, cache, input, false, work)
     }
@@ -181,9 +185,12 @@ impl DFA {
         requires own { IsCacheOf self.now cache.old }
         requires is_reverse { self.now.nfa.automaton.reverse ≡ true }
         ensures own { IsCacheOf self.now cache.new }
-        ensures search { MakesHalf self.now input.now cache.old cache.new work.old.determinized work.new.determinized work.old.inserted
-            work.new.inserted result }
-        ensures reach { IfOk result (λ found. (o : Option (ℕ × ℕ)) × (found ≡ half_of o) × HasReachBack (reader self.now) input.now o) }
+        ensures found { FindsDownTo (reader self.now) input.now result }
+        ensures answer { AnswersHalf self.now input.now cache.old cache.new result }
+        ensures cache { LeavesCache self.now input.now cache.old cache.new result }
+        ensures work { CountsHalf self.now input.now cache.old work.old.determinized work.new.determinized work.old.inserted
+            work.new.inserted }
+        ensures progress { ReportsHalf self.now input.now cache.old cache.new result }
     {
         search(self, cache, input, true, work)
     }

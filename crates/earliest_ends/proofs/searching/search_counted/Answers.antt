@@ -6,4 +6,4 @@ use Rattle.earliest_ends.proofs.searching.search_counted.Goals as goal
 pub returns-clause-answer : goal.returns-clause-answer
 returns-clause-answer g c =
     subst (λ (d : Dfa). Answers d c.try_search_fwd.new.cache c.args.input.now c.try_search_fwd.result) c.forward.ensures.value
-    c.try_search_fwd.ensures.search.answer
+    c.try_search_fwd.ensures.answer.answer

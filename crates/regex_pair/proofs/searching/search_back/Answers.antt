@@ -6,4 +6,4 @@ match_between-requires g c = starts_before c.args.re.now.reverse c.search_start.
     c.offset.result c.args.end.offset
     c.search_start.result c.in-Ok.start c.in-Some.start c.offset-2.result c.back_input-back.ensures c.offset.ensures c.in-Ok.is c.in-Some.is
     c.offset-2.ensures
-    c.search_start.ensures.search.answer
+    c.search_start.ensures.search.answers.answer

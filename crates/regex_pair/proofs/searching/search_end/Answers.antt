@@ -7,4 +7,9 @@ pub returns-clause-search : goal.returns-clause-search
 returns-clause-search g c = subst (λ (d : Dfa). MakesHalf d c.args.input.now c.args.cache.now c.try_search_fwd.new.cache
     c.args.work.now.determinized c.try_search_fwd.new.work.determinized
     c.args.work.now.inserted c.try_search_fwd.new.work.inserted c.try_search_fwd.result) c.forward.ensures.value
-    c.try_search_fwd.ensures.search
+    (record {
+      answers = c.try_search_fwd.ensures.answer;
+      cache = c.try_search_fwd.ensures.cache;
+      work = c.try_search_fwd.ensures.work;
+      reports = c.try_search_fwd.ensures.progress;
+    })

@@ -7,4 +7,9 @@ pub returns-clause-search : goal.returns-clause-search
 returns-clause-search g c = subst (λ (d : Dfa). MakesHalf d c.args.input.now c.args.cache.now c.try_search_rev.new.cache
     c.args.work.now.determinized c.try_search_rev.new.work.determinized
     c.args.work.now.inserted c.try_search_rev.new.work.inserted c.try_search_rev.result) c.reverse.ensures.value
-    c.try_search_rev.ensures.search
+    (record {
+      answers = c.try_search_rev.ensures.answer;
+      cache = c.try_search_rev.ensures.cache;
+      work = c.try_search_rev.ensures.work;
+      reports = c.try_search_rev.ensures.progress;
+    })

@@ -1,0 +1,69 @@
+#!/usr/bin/env python3
+"""The toolchain's rt, which computes each crate's checksum once in a call. By itself rt does that once for each path through crates.txt,
+thousands for the upper crates: a minute or two for each check of these.
+
+    tools/fast_rt.py WORD..    rt with these words
+
+Other scripts import it for rt's own module (`load_rtlib`). If rt has another form than this file knows, it is run as it is."""
+
+import importlib.machinery
+import importlib.util
+import os
+import shutil
+import sys
+import threading
+
+sys.dont_write_bytecode = True
+RT = os.path.realpath(shutil.which("rt") or "rt")
+HERE = os.path.realpath(__file__)
+
+
+def load_rtlib():
+    """Loads rt's own module, with checksums that are computed once for each crate of a list."""
+    loader = importlib.machinery.SourceFileLoader("rtlib", f"{os.path.dirname(RT)}/rtlib.py")
+    rtlib = importlib.util.module_from_spec(importlib.util.spec_from_loader("rtlib", loader))
+    sys.modules["rtlib"] = rtlib
+    loader.exec_module(rtlib)
+    compute_once(rtlib)
+    return rtlib
+
+
+def compute_once(rtlib):
+    """Lets a call of `stamp` compute each crate's checksum once, and `below` list each crate's libraries once."""
+    plain, below, local = rtlib.Crate.stamp, rtlib.Crate.below, threading.local()
+
+    def stamp(self):
+        is_outer = getattr(local, "known", None) is None
+        if is_outer:
+            local.known = {}
+        try:
+            if id(self) not in local.known:
+                local.known[id(self)] = plain(self)
+            return local.known[id(self)]
+        finally:
+            if is_outer:
+                local.known = None
+
+    def all_below(self):
+        kept = self.__dict__.get("kept_below")
+        if kept is None or kept[0] != len(self.deps):
+            kept = self.__dict__["kept_below"] = (len(self.deps), below(self))
+        return list(kept[1])
+
+    rtlib.Crate.stamp, rtlib.Crate.below = stamp, all_below
+
+
+def run_rt(words):
+    """Runs the toolchain's rt in this process."""
+    with open(RT, encoding="utf-8") as file:
+        source = file.read()
+    line = "\nrtlib = load()\n"
+    if line not in source:
+        os.execv(RT, [RT, *words])
+    sys.argv = [RT, *words]
+    code = source.replace(line, f"{line}compute_once(rtlib)\n", 1)
+    exec(compile(code, RT, "exec"), {"__name__": "__main__", "__file__": RT, "compute_once": compute_once})  # pylint: disable=exec-used
+
+
+if __name__ == "__main__":
+    sys.exit(run_rt(sys.argv[1:]))
