@@ -61,7 +61,7 @@ def read_patterns(options):
             patterns += [line.removesuffix("\n") for line in file]
     if options.F:
         patterns = [re.sub(r"[\\.+*?()|\[\]{}^$#&~-]", r"\\\g<0>", it) for it in patterns]
-    return tuple(patterns) or ("[a&&b]",)  # an empty class: without a pattern no line is selected
+    return tuple(patterns)
 
 
 def files_of(words, fail):
@@ -185,7 +185,10 @@ def report(message):
 
 
 def search(options):
-    """Returns the exit status: 0 if a line is selected, 1 if none is, 2 after an error."""
+    """Returns the exit status: 0 if a line is selected, 1 if none is, 2 after an error. Without a pattern no file is searched, and nothing is
+    printed, as by hirgrep."""
+    if not options.patterns:
+        return 1
     query = block_search.Query(options.patterns, options.i, options.output)
     block_search.compile_query(query)  # so that a wrong pattern is reported before anything is sent
     printer = Printer(options.output)
