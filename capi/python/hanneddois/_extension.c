@@ -1506,9 +1506,9 @@ static int may_refill;
 static int find_may_refill(void)
 {
     PyObject *version = PySys_GetObject("hexversion");
-    long number = version ? PyLong_AsLong(version) : -1;
-    may_refill = number < 0x030e0000;
-    return number < 0 ? -1 : 0;
+    long number = version ? PyLong_AsLong(version) : 0;
+    may_refill = number > 0 && number < 0x030e0000;
+    return number < 0 && PyErr_Occurred() ? -1 : 0;
 }
 
 /* Fills a tuple to which nothing else refers, and takes over the references to the parts. */
