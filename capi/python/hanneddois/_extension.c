@@ -1024,11 +1024,13 @@ static int search_ahead(Scan *scan)
         PyErr_NoMemory();
         return -1;
     }
-    if (scan->room == room && check_utf8(scan->matcher, &scan->haystack) < 0)
-        return -1;
-    if (begin_search(scan->matcher, &scan->matcher->stock, &scan->haystack, &search) < 0)
-        return -1;
+    /* The next calls may give up the interpreter's lock, so other threads have to see this first. */
     scan->is_searching = 1;
+    if ((scan->room == room && check_utf8(scan->matcher, &scan->haystack) < 0) ||
+        begin_search(scan->matcher, &scan->matcher->stock, &scan->haystack, &search) < 0) {
+        scan->is_searching = 0;
+        return -1;
+    }
     size_t count = find_some(scan, &search);
     end_search(&search);
     scan->count = count;
