@@ -149,6 +149,11 @@ impl DFA {
     /// of some unit of the search. If the cache was cleared, what was searched before the last clear doesn't count. The search in
     /// progress then began at the byte where it was at that clear.
     ///
+    /// If the search returns a match or none, the clause `found` says which, by the ends of the automaton's runs alone. If the
+    /// earliest end is asked for, the search finds the nearest one. Otherwise it finds the end of the most preferred run under
+    /// leftmost-first, and the last end if all matches are asked for. If that end splits a character and so doesn't count, the
+    /// next starting offset decides. A search for a pattern that doesn't exist finds nothing, as does one over a done span.
+    ///
     /// A match, or none, comes with an offset up to which the search read. From the byte before the span up to this offset there
     /// is no quit byte. Under leftmost-first, the result is the first end for each interpretation of looks that agrees with the
     /// one by ASCII bytes up to there. Any haystack with the same bytes there gives the same answer
@@ -173,8 +178,9 @@ impl DFA {
     }
 
     /// Returns the start of the match in a span that the match kind prefers, or none, as `DFA::try_search_rev`. The automaton
-    /// reads in reverse, from the span's end. A match, or none, comes with an offset down to which the search read, from the byte
-    /// after the span on. Everything else is as for [`try_search_fwd`](DFA::try_search_fwd).
+    /// reads in reverse, from the span's end. The nearest end is the greatest one then, and the last end is the least one. A match,
+    /// or none, comes with an offset down to which the search read, from the byte after the span on. Everything else is as for
+    /// [`try_search_fwd`](DFA::try_search_fwd).
     #[inline(always)]
     pub fn try_search_rev<L: Ledger, M: Ledger>(
         &self,
