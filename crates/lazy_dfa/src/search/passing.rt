@@ -492,38 +492,9 @@ fn end_at_first(cache: &mut Cache, input: &Input<'_>, is_reverse: bool)
     cache.search_finish(index);
 }
 
-/// A scan over a whole span, in a direction that its caller knows.
-#[inline(always)]
-fn pass_in<L: Ledger, M: Ledger>(
-    dfa: &DFA,
-    cache: &mut Cache,
-    input: &Input<'_>,
-    is_reverse: bool,
-    work: &mut Work<L, M>,
-) -> Result<Option<HalfMatch>, MatchError>
-    requires own { IsCacheOf dfa.now cache.old }
-    requires is_reverse { is_reverse ≡ dfa.now.nfa.automaton.reverse }
-    requires begun { input.now.start ≤ input.now.end }
-    ensures own { IsCacheOf dfa.now cache.new }
-    ensures scan { MakesScan dfa.now input.now cache.old cache.new work.old.determinized work.new.determinized work.old.inserted
-        work.new.inserted result }
-{
-    dfa.is_made();
-    let id = match start_of_pass(dfa, cache, input, is_reverse, work) {
-        Ok(id) => id,
-        Err(e) => return Err(e),
-    };
-    if id.is_dead() {
-        end_at_first(cache, input, is_reverse);
-        return Ok(None);
-    }
-    begin_at_first(cache, input, is_reverse);
-    go_on(dfa, cache, input, is_reverse, id, work)
-}
-
-/// A scan forward. Its code never tests the direction in which it reads.
+/// A scan forward over a whole span. Its code never tests the direction in which it reads.
 #[inline(never)]
-fn pass_forward<L: Ledger, M: Ledger>(
+pub(crate) fn scan_forward<L: Ledger, M: Ledger>(
     dfa: &DFA,
     cache: &mut Cache,
     input: &Input<'_>,
@@ -536,12 +507,22 @@ fn pass_forward<L: Ledger, M: Ledger>(
     ensures scan { MakesScan dfa.now input.now cache.old cache.new work.old.determinized work.new.determinized work.old.inserted
         work.new.inserted result }
 {
-    pass_in(dfa, cache, input, false, work)
+    dfa.is_made();
+    let id = match start_of_pass(dfa, cache, input, false, work) {
+        Ok(id) => id,
+        Err(e) => return Err(e),
+    };
+    if id.is_dead() {
+        end_at_first(cache, input, false);
+        return Ok(None);
+    }
+    begin_at_first(cache, input, false);
+    go_on(dfa, cache, input, false, id, work)
 }
 
-/// A scan in reverse. Its code never tests the direction in which it reads.
+/// A scan in reverse over a whole span. Its code never tests the direction in which it reads.
 #[inline(never)]
-fn pass_reverse<L: Ledger, M: Ledger>(
+pub(crate) fn scan_reverse<L: Ledger, M: Ledger>(
     dfa: &DFA,
     cache: &mut Cache,
     input: &Input<'_>,
@@ -554,10 +535,20 @@ fn pass_reverse<L: Ledger, M: Ledger>(
     ensures scan { MakesScan dfa.now input.now cache.old cache.new work.old.determinized work.new.determinized work.old.inserted
         work.new.inserted result }
 {
-    pass_in(dfa, cache, input, true, work)
+    dfa.is_made();
+    let id = match start_of_pass(dfa, cache, input, true, work) {
+        Ok(id) => id,
+        Err(e) => return Err(e),
+    };
+    if id.is_dead() {
+        end_at_first(cache, input, true);
+        return Ok(None);
+    }
+    begin_at_first(cache, input, true);
+    go_on(dfa, cache, input, true, id, work)
 }
 
-/// A scan over a whole span.
+/// A scan over a whole span, in the direction of the automaton.
 #[inline(always)]
 pub(crate) fn scan<L: Ledger, M: Ledger>(
     dfa: &DFA,
@@ -574,8 +565,8 @@ pub(crate) fn scan<L: Ledger, M: Ledger>(
         work.new.inserted result }
 {
     if is_reverse {
-        pass_reverse(dfa, cache, input, work)
+        scan_reverse(dfa, cache, input, work)
     } else {
-        pass_forward(dfa, cache, input, work)
+        scan_forward(dfa, cache, input, work)
     }
 }

@@ -8,7 +8,7 @@ ghost use Rattle.lazy_dfa.specs.SearchAnswers.{FindsDownTo, FindsUpTo};
 ghost use Rattle.lazy_dfa.specs.SearchPromises.{AnswersHalf, CountsHalf, LeavesCache, ReportsHalf};
 
 use crate::automaton::dfa::{Cache, DFA};
-use crate::search::passing::scan;
+use crate::search::passing::{scan, scan_forward, scan_reverse};
 use crate::search::runs::see_bytes;
 use crate::work::Work;
 use search_types::{HalfMatch, Input, MatchError};
@@ -40,7 +40,7 @@ pub(crate) fn is_between_characters(dfa: &DFA) -> bool
     nfa.is_utf8() && nfa.has_empty()
 }
 
-/// A half search: one scan, and as long as its end doesn't count another one over a byte less.
+/// A half search that is done, or that makes a scan, and as long as its end doesn't count another one over a byte less.
 #[inline(never)]
 fn search_again<L: Ledger, M: Ledger>(
     dfa: &DFA,
@@ -88,41 +88,6 @@ fn search_again<L: Ledger, M: Ledger>(
         }
     }
     Ok(None)
-}
-
-/// A half search: one scan if every end counts, and otherwise as many as it takes.
-#[inline(always)]
-fn search<L: Ledger, M: Ledger>(
-    dfa: &DFA,
-    cache: &mut Cache,
-    input: &Input<'_>,
-    is_reverse: bool,
-    work: &mut Work<L, M>,
-) -> Result<Option<HalfMatch>, MatchError>
-    requires own { IsCacheOf dfa.now cache.old }
-    requires is_reverse { is_reverse ≡ dfa.now.nfa.automaton.reverse }
-    ensures made { IsDfa dfa.now }
-    ensures within { IsWithin input.now }
-    ensures own { IsCacheOf dfa.now cache.new }
-    ensures search { MakesSearch dfa.now input.now cache.old cache.new work.old.determinized work.new.determinized work.old.inserted
-        work.new.inserted result }
-{
-    dfa.is_made();
-    see_bytes(input.haystack());
-    if is_between_characters(dfa) {
-        return search_again(dfa, cache, input, work);
-    }
-    if input.is_done() {
-        return Ok(None);
-    }
-    let found = match scan(dfa, cache, input, is_reverse, work) {
-        Ok(found) => found,
-        Err(e) => return Err(e),
-    };
-    let Some(half) = found else {
-        return Ok(None);
-    };
-    Ok(Some(half))
 }
 
 impl DFA {
@@ -174,7 +139,12 @@ impl DFA {
             work.new.inserted }
         ensures progress { ReportsHalf self.now input.now cache.old cache.new result }
     {
-        search(self, cache, input, false, work)
+        self.is_made();
+        see_bytes(input.haystack());
+        if is_between_characters(self) || input.is_done() {
+            return search_again(self, cache, input, work);
+        }
+        scan_forward(self, cache, input, work)
     }
 
     /// Returns the start of the match in a span that the match kind prefers, or none, as `DFA::try_search_rev`. The automaton
@@ -198,6 +168,11 @@ impl DFA {
             work.new.inserted }
         ensures progress { ReportsHalf self.now input.now cache.old cache.new result }
     {
-        search(self, cache, input, true, work)
+        self.is_made();
+        see_bytes(input.haystack());
+        if is_between_characters(self) || input.is_done() {
+            return search_again(self, cache, input, work);
+        }
+        scan_reverse(self, cache, input, work)
     }
 }

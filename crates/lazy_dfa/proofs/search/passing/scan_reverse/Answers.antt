@@ -4,7 +4,7 @@ use Rattle.lazy_dfa.specs.Dfas.{reader}
 use Rattle.lazy_dfa.specs.HalfSearchLaws.{begins_at}
 use Rattle.lazy_dfa.proofs.CacheChanges.LinkedLemmas.{is_cache_moved}
 use Rattle.lazy_dfa.proofs.Courses.WholePassLemmas.{refused_pass, row_named, goes_dead, goes_further}
-use Rattle.lazy_dfa.proofs.search.passing.pass_in.Goals as goal
+use Rattle.lazy_dfa.proofs.search.passing.scan_reverse.Goals as goal
 
 pub returns-in-Err-clause-scan : goal.returns-in-Err-clause-scan
 returns-in-Err-clause-scan g c = refused_pass c.args.dfa.now c.args.input.now c.args.cache.now c.start_of_pass.new.cache
@@ -20,7 +20,7 @@ returns-then-is_dead-clause-scan g c = goes_dead c.args.dfa.now c.args.input.now
     c.args.work.now.determinized c.start_of_pass.new.work.determinized
     c.args.work.now.inserted c.start_of_pass.new.work.inserted c.in-Ok.id c.is_made.ensures c.requires.own c.in-Ok.ensures.own
     c.in-Ok.ensures.start
-    c.args.is_reverse c.requires.is_reverse
+    true (sym c.requires.is_reverse)
     c.end_at_first.new.cache
     (sym c.is_dead.ensures ∙ c.if-is_dead.true) c.end_at_first.ensures.moved c.end_at_first.ensures.reported
 
@@ -41,7 +41,7 @@ returns-clause-scan g c = goes_further c.args.dfa.now c.args.input.now c.args.ca
     c.args.work.now.determinized c.start_of_pass.new.work.determinized
     c.args.work.now.inserted c.start_of_pass.new.work.inserted c.in-Ok.id c.is_made.ensures c.requires.own c.in-Ok.ensures.own
     c.in-Ok.ensures.start
-    c.args.is_reverse c.requires.is_reverse
+    true (sym c.requires.is_reverse)
     c.go_on.new.cache
     c.begin_at_first.new.cache c.go_on.new.work.determinized c.go_on.new.work.inserted c.go_on.result
     (sym c.is_dead.ensures ∙ c.if-is_dead.false) c.begin_at_first.ensures.moved c.begin_at_first.ensures.reported c.go_on.ensures.runs
