@@ -19,7 +19,7 @@ use crate::cache_error::CacheError;
 use crate::lazy_id::LazyStateID;
 use crate::search::match_loop::linger;
 use crate::search::position::Position;
-use crate::search::runs::{run_forward, run_reverse, see_bytes};
+use crate::search::runs::{run, see_bytes};
 use crate::search::scan_steps::{Turn, make_turn};
 use crate::work::Work;
 use search_types::{HalfMatch, Input, MatchError, MatchErrorKind};
@@ -131,64 +131,6 @@ pub(crate) fn rejection(err: CacheError, place: usize) -> MatchError
 }
 
 // ---- turns
-
-/// Follows known steps while no state has a tag, up to the last position of the span.
-#[inline(always)]
-pub(crate) fn run(
-    dfa: &DFA,
-    cache: &mut Cache,
-    input: &Input<'_>,
-    is_reverse: bool,
-    position: Position,
-) -> Position
-    requires own { IsCacheOf dfa.now cache.old }
-    requires is_reverse { is_reverse ≡ dfa.now.nfa.automaton.reverse }
-    requires row { IsRow cache.old position.id }
-    requires within { IsWithinSpan input.now position.at }
-    ensures same { cache.new ≡ cache.old }
-    ensures row { IsRow cache.old result.id }
-    ensures within { IsWithinSpan input.now result.at }
-    ensures closer { left_at is_reverse input.now result.at ≤ left_at is_reverse input.now position.at }
-    ensures goes { (earliest : Bool) (m n : ℕ) → GoesBetween dfa.now earliest input.now.haystack
-        (point cache.old m n position.at position.id (pair_of position.best))
-        (point cache.old m n result.at result.id (pair_of result.best))
-        (left_at is_reverse input.now position.at - left_at is_reverse input.now result.at) }
-{
-    if position.id.is_tagged() {
-        return position;
-    }
-    let haystack = input.haystack();
-    if is_reverse {
-        let moved = run_reverse(
-            dfa,
-            cache,
-            haystack,
-            position.id,
-            position.at,
-            input.start(),
-        );
-        return Position {
-            at: moved.at,
-            id: moved.id,
-            best: position.best,
-        };
-    }
-    let is_anchored = input.get_anchored().is_anchored();
-    let moved = run_forward(
-        dfa,
-        cache,
-        haystack,
-        position.id,
-        position.at,
-        input.end(),
-        is_anchored,
-    );
-    Position {
-        at: moved.at,
-        id: moved.id,
-        best: position.best,
-    }
-}
 
 /// Follows known steps after a turn: while no state has a tag, and then through matching states too. This is rarely needed. It is
 /// a function of its own, so that a scan's code has the loops of runs just once.

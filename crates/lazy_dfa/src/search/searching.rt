@@ -40,7 +40,8 @@ pub(crate) fn is_between_characters(dfa: &DFA) -> bool
     nfa.is_utf8() && nfa.has_empty()
 }
 
-/// A half search that is done, or that makes a scan, and as long as its end doesn't count another one over a byte less.
+/// A half search whose ends may not count: while the end of a scan doesn't, another scan follows over a byte less. It makes no scan if
+/// it is done.
 #[inline(never)]
 fn search_again<L: Ledger, M: Ledger>(
     dfa: &DFA,
