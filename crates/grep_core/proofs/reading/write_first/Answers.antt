@@ -2,7 +2,7 @@ use Rattle.std.proofs.Common.{◌++◌, ◌+◌, drop, refl, sym, ◌∙◌}
 use Rattle.grep_core.specs.Blocks.{finds_by}
 use Rattle.line_search.specs.Lines.{split_lines}
 use Rattle.grep_core.proofs.LongLineLemmas.{first_begun, first_written, same_writes}
-use Rattle.grep_core.proofs.reading.write_first_line.Goals as goal
+use Rattle.grep_core.proofs.reading.write_first.Goals as goal
 
 pub returns-then-not-begins_long-clause-writes : goal.returns-then-not-begins_long-clause-writes
 returns-then-not-begins_long-clause-writes g c by more =
