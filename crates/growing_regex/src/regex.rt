@@ -38,8 +38,6 @@ pub struct GrowingRegex {
     size: Size,
     /// The largest capacity in bytes to which caches are enlarged.
     largest: usize,
-    /// How often caches were cleared that have been replaced by larger ones.
-    past_clears: usize,
     alloc: Global,
 }
 
@@ -96,7 +94,6 @@ impl GrowingRegex {
             cache,
             size,
             largest,
-            past_clears: 0,
             alloc,
         })
     }
@@ -118,7 +115,7 @@ impl GrowingRegex {
 
     /// How often caches were cleared, those included that have been replaced. The greatest number stands for any number above it.
     pub fn clear_count(&self) -> usize {
-        self.past_clears.saturating_add(self.clears())
+        self.size.clear_count(self.clears())
     }
 
     /// The bytes that both caches are estimated to need.
@@ -138,8 +135,7 @@ impl GrowingRegex {
         requires own { AreCachesOf regex.value cache }
         ensures { self.new ≡ self.old }
     {
-        self.past_clears = self.clear_count();
-        self.size = Size::of(capacity);
+        self.size = self.size.enlarged(capacity, self.clears());
         self.regex = regex;
         self.cache = cache;
     }
@@ -219,7 +215,11 @@ impl GrowingRegex {
 
     /// The least end of the matches of a block that start at an offset or later, or none, as
     /// [`find_earliest_end`](earliest_ends::find_earliest_end).
-    pub fn find_earliest_end(&mut self, block: &[u8], at: usize) -> Result<Option<usize>, MatchError>
+    pub fn find_earliest_end(
+        &mut self,
+        block: &[u8],
+        at: usize,
+    ) -> Result<Option<usize>, MatchError>
         requires within { at ≤ length block.now }
         ensures same { self.new ≡ self.old }
         ensures found { (xs : List Tree) (s : Settings) → IsBuilt xs s self.old.pair → FindsFirst s → s.utf8 ≡ false →

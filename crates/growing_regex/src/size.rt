@@ -1,5 +1,6 @@
 //! The size of caches, and whether it is too small. It affects no answer.
-ghost use Rattle.std.specs.Prelude.{◌≡◌, ◌<◌, ◌≤◌, IfSome};
+ghost use Rattle.std.specs.Prelude.{◌≡◌, ◌+◌, ◌<◌, ◌≤◌, IfSome, min};
+ghost use Rattle.lazy_dfa.specs.Caches.{greatest};
 
 /// The factor from one capacity to the next larger one.
 const STEP: usize = 4;
@@ -14,8 +15,10 @@ const WORTH: usize = 8;
 pub(crate) struct Size {
     /// The capacity in bytes of each of both caches.
     pub(crate) capacity: usize,
-    /// How often the caches were cleared.
+    /// How often the caches were cleared, as it was last recorded.
     pub(crate) clears: usize,
+    /// How often caches were cleared that have been replaced by these.
+    pub(crate) past_clears: usize,
     /// How many bytes were searched since they were last cleared.
     searched: usize,
 }
@@ -28,7 +31,27 @@ impl Size {
         Size {
             capacity,
             clears: 0,
+            past_clears: 0,
             searched: 0,
+        }
+    }
+
+    /// How often all caches were cleared, those that have been replaced included, if the present ones were cleared this often. The greatest
+    /// number stands for any number above it.
+    pub(crate) fn clear_count(&self, clears: usize) -> usize
+        ensures { result ≡ min (self.now.past_clears + clears) greatest }
+    {
+        self.past_clears.saturating_add(clears)
+    }
+
+    /// The size of new caches of this capacity, if the present ones were cleared this often.
+    pub(crate) fn enlarged(&self, capacity: usize, clears: usize) -> Size
+        ensures capacity { result.capacity ≡ capacity }
+        ensures past { result.past_clears ≡ min (self.now.past_clears + clears) greatest }
+    {
+        Size {
+            past_clears: self.clear_count(clears),
+            ..Size::of(capacity)
         }
     }
 

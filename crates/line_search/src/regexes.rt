@@ -58,4 +58,3 @@ pub(crate) fn search_of(alloc: Global, tree: &Hir) -> Result<GrowingRegex, Build
         Err(_) => Err(BuildError::NoMemory),
     }
 }
-
