@@ -121,8 +121,7 @@ impl Regex {
 
     /// What finds the least start of a match without looks at words, if it can be made.
     fn wordless_searcher(&self, alloc: Global) -> Option<GrowingRegex>
-        ensures of { IfSome result (λ g. AreWordlessOf (config_by self.now) self.now.texts LeftmostFirst g.pair) }
-        ensures capacity { IfSome result (KeepsCapacity self.now) }
+        ensures { IfSome result (λ g. AreWordlessOf (config_by self.now) self.now.texts LeftmostFirst g.pair × KeepsCapacity self.now g) }
     {
         let Some(pair) = self.wordless_pair(alloc, MatchKind::LeftmostFirst) else {
             return None;
