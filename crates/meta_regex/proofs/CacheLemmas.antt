@@ -1,0 +1,43 @@
+-- What is known of a cache and its automata after a search.
+use Rattle.std.proofs.Common.{◌≡◌, ℕ, List, sym, subst}
+use Rattle.std.specs.Prelude.{IfSome}
+use Rattle.regex_syntax.specs.declared.Config.{Config}
+use Rattle.search_types.specs.declared.match_kind.MatchKind.{MatchKind}
+use Rattle.search_types.specs.declared.match_kind.MatchKind.TheVariants.{LeftmostFirst}
+use Rattle.regex_pair.specs.Pairs.{Pair}
+use Rattle.growing_regex.specs.Growing.{AreGrown, Growing, sized_settings}
+use Rattle.meta_regex.specs.declared.cache.Cache.{Cache}
+use Rattle.meta_regex.specs.declared.options.Options.{Options}
+use Rattle.meta_regex.specs.Caches.{IsCacheOf, KeepsCapacity}
+use Rattle.meta_regex.specs.Regexes.{AreBuiltOf, AreReportedOf, RegexValue, config_by}
+
+-- a search leaves automata of the patterns
+pub automata_kept : (v : RegexValue) (c : Cache) (g : Growing) → g ≡ c.automata → IsCacheOf v c → IsCacheOf v (record c { automata = g })
+automata_kept v c g same it = record {
+  automata = subst (λ (x : Growing). AreReportedOf (config_by v) v.texts LeftmostFirst v.loops x.pair) (sym same) it.automata;
+  capacity = subst (KeepsCapacity v) (sym same) it.capacity;
+  overlapping = it.overlapping;
+  fallbacks = it.fallbacks;
+  wordless = it.wordless;
+  wordless_overlapping = it.wordless_overlapping;
+}
+
+-- new caches are enlarged only if no capacity is set
+pub capacity_kept : (v : RegexValue) (o : Options) (g : Growing) (pair : Pair) (largest : ℕ) → o ≡ v.options →
+    IfSome o.cache_capacity (λ _. largest ≡ 0) → g ≡ record { pair = pair; largest = largest } → KeepsCapacity v g
+capacity_kept v o g pair largest same kept is =
+    subst (KeepsCapacity v) (sym is) (subst (λ (p : Options). IfSome p.cache_capacity (λ _. largest ≡ 0)) same kept)
+
+-- automata with caches of another capacity are of the same patterns
+pub built_grown : (config : Config) (texts : List (List ℕ)) (kind : MatchKind) (g : Growing) (p : Pair) → AreBuiltOf config texts kind g.pair →
+    AreGrown g p → AreBuiltOf config texts kind p
+built_grown config texts kind g p it grown = record {
+  trees = it.trees;
+  settings = sized_settings grown.capacity it.settings;
+  mean = it.mean;
+  built = grown.built it.trees it.settings it.built;
+  kind_is = it.kind_is;
+  lines = it.lines;
+  mode = it.mode;
+  utf8_trees = it.utf8_trees;
+}
