@@ -1,5 +1,5 @@
 -- Copies of automata with caches of another capacity.
-use Rattle.std.proofs.Common.{◌≡◌, ℕ, List, Some, sym, ap, ap₂, ◌∙◌, subst}
+use Rattle.std.proofs.Common.{◌≡◌, ℕ, false, true, List, Some, sym, ap, ap₂, ◌∙◌, subst}
 use Rattle.search_types.proofs.ForCallers.{option_or-None}
 use Rattle.hir_core.specs.Tree.{Tree}
 use Rattle.nfa_core.specs.NfaValue.{Nfa}
