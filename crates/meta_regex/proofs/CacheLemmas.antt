@@ -29,7 +29,7 @@ capacity_kept v o g pair largest same kept is =
     subst (KeepsCapacity v) (sym is) (subst (λ (p : Options). IfSome p.cache_capacity (λ _. largest ≡ 0)) same kept)
 
 -- automata with caches of another capacity are of the same patterns
-pub built_grown : (config : Config) (texts : List (List ℕ)) (kind : MatchKind) (g : Growing) (p : Pair) → AreBuiltOf config texts kind g.pair →
+unfoldable pub built_grown : (config : Config) (texts : List (List ℕ)) (kind : MatchKind) (g : Growing) (p : Pair) → AreBuiltOf config texts kind g.pair →
     AreGrown g p → AreBuiltOf config texts kind p
 built_grown config texts kind g p it grown = record {
   trees = it.trees;

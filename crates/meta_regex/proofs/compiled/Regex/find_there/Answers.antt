@@ -42,3 +42,6 @@ returns-clause-preferred c loops =
 
 pub returns-clause-own : goal.returns-clause-own
 returns-clause-own c = automata_kept c.args.self.now c.args.cache.now _ c.find.ensures.same c.requires.own
+
+pub returns-in-Err-clause-own : goal.returns-in-Err-clause-own
+returns-in-Err-clause-own c = automata_kept c.args.self.now c.args.cache.now _ c.find.ensures.same c.requires.own
