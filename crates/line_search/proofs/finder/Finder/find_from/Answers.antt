@@ -7,6 +7,7 @@ use Rattle.line_search.specs.LineMatchers.{span_pair}
 use Rattle.line_search.specs.Searchers.{Sought}
 use Rattle.line_search.specs.declared.patterns.PatternOptions.{PatternOptions}
 use Rattle.line_search.proofs.FoundSpanLemmas.{found_told}
+use Rattle.line_search.proofs.OwnLemmas.{own_kept}
 use Rattle.line_search.proofs.finder.Finder.find_from.Goals as goal
 
 pub returns-in-Ok-clause-reported : goal.returns-in-Ok-clause-reported
@@ -24,3 +25,23 @@ returns-clause-reported c asked =
     subst (λ (s : Sought). IsFoundSpan s.how s.texts c.args.line.now c.args.start (option_map span_pair c.in_ok-found.found)) c.self.view_is
     (subst (λ (v : PatternOptions × List (List ℕ)). IsFoundSpan v.0 v.1 c.args.line.now c.args.start (option_map span_pair c.in_ok-found.found))
     c.self.invariant.1 c.in_ok-found.ensures.reported)
+
+pub invariant_of-self : goal.invariant_of-self
+invariant_of-self c =
+    own_kept c.self.inside.patterns.now c.self.inside.with_matches c.self.inside.searcher _ c.self.inside.slow _
+    c.find.ensures.same refl c.self.invariant
+
+pub invariant_of-self-then-lacks_memory : goal.invariant_of-self-then-lacks_memory
+invariant_of-self-then-lacks_memory c =
+    own_kept c.self.inside.patterns.now c.self.inside.with_matches c.self.inside.searcher _ c.self.inside.slow _
+    c.find.ensures.same refl c.self.invariant
+
+pub invariant_of-self-in_err-found : goal.invariant_of-self-in_err-found
+invariant_of-self-in_err-found c =
+    own_kept c.self.inside.patterns.now c.self.inside.with_matches c.self.inside.searcher _ c.self.inside.slow _
+    c.find.ensures.same c.find_from.ensures.same c.self.invariant
+
+pub invariant_of-self-2 : goal.invariant_of-self-2
+invariant_of-self-2 c =
+    own_kept c.self.inside.patterns.now c.self.inside.with_matches c.self.inside.searcher _ c.self.inside.slow _
+    c.find.ensures.same c.find_from.ensures.same c.self.invariant

@@ -1,9 +1,10 @@
-use Rattle.std.proofs.Common.{ℕ, List, Ok, subst, ◌∙◌}
+use Rattle.std.proofs.Common.{ℕ, List, Ok, refl, subst, ◌∙◌}
 use Rattle.search_types.specs.Inputs.{Search}
 use Rattle.growing_regex.specs.Growing.{AnswersBy}
 use Rattle.line_search.specs.Searchers.{IsMatchReported, Sought}
 use Rattle.line_search.specs.declared.patterns.PatternOptions.{PatternOptions}
 use Rattle.line_search.proofs.MatchLemmas.{progress_of}
+use Rattle.line_search.proofs.OwnLemmas.{own_kept}
 use Rattle.line_search.proofs.finder.Finder.has_match.Goals as goal
 
 pub returns-in-Ok-clause-reported : goal.returns-in-Ok-clause-reported
@@ -19,3 +20,23 @@ returns-clause-reported c =
     subst (λ (s : Sought). IsMatchReported s.how s.texts c.args.line.now c.in_ok-has.has) c.self.view_is
     (subst (λ (v : PatternOptions × List (List ℕ)). IsMatchReported v.0 v.1 c.args.line.now c.in_ok-has.has) c.self.invariant.1
     c.in_ok-has.ensures.reported)
+
+pub invariant_of-self : goal.invariant_of-self
+invariant_of-self c =
+    own_kept c.self.inside.patterns.now c.self.inside.with_matches c.self.inside.searcher _ c.self.inside.slow _
+    c.find.ensures.same refl c.self.invariant
+
+pub invariant_of-self-then-lacks_memory : goal.invariant_of-self-then-lacks_memory
+invariant_of-self-then-lacks_memory c =
+    own_kept c.self.inside.patterns.now c.self.inside.with_matches c.self.inside.searcher _ c.self.inside.slow _
+    c.find.ensures.same refl c.self.invariant
+
+pub invariant_of-self-in_err-has : goal.invariant_of-self-in_err-has
+invariant_of-self-in_err-has c =
+    own_kept c.self.inside.patterns.now c.self.inside.with_matches c.self.inside.searcher _ c.self.inside.slow _
+    c.find.ensures.same c.has_match.ensures.same c.self.invariant
+
+pub invariant_of-self-2 : goal.invariant_of-self-2
+invariant_of-self-2 c =
+    own_kept c.self.inside.patterns.now c.self.inside.with_matches c.self.inside.searcher _ c.self.inside.slow _
+    c.find.ensures.same c.has_match.ensures.same c.self.invariant

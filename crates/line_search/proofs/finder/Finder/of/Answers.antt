@@ -16,7 +16,7 @@ invariant_of-result c =
           c.requires.loops asked,
         ),
       ),
-      c.new-2.ensures,
+      c.new.ensures,
       c.new-candidates.ensures,
       c.new-literals.ensures c.args.patterns.now.0 c.args.patterns.now.1 (ap (λ (h : PatternOptions). h.crlf) (sym c.how.ensures)) lines,
       c.strings_of.ensures c.args.patterns.now.0 c.args.patterns.now.1 (ap (λ (h : PatternOptions). h.crlf) (sym c.how-2.ensures)) lines,
