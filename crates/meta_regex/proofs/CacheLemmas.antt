@@ -1,5 +1,5 @@
 -- What is known of a cache and its automata after a search.
-use Rattle.std.proofs.Common.{◌≡◌, ℕ, List, sym, subst}
+use Rattle.std.proofs.Common.{◌≡◌, ℕ, Bool, List, sym, subst}
 use Rattle.std.specs.Prelude.{IfSome}
 use Rattle.regex_syntax.specs.declared.Config.{Config}
 use Rattle.search_types.specs.declared.match_kind.MatchKind.{MatchKind}
@@ -29,7 +29,7 @@ capacity_kept v o g pair largest same kept is =
     subst (KeepsCapacity v) (sym is) (subst (λ (p : Options). IfSome p.cache_capacity (λ _. largest ≡ 0)) same kept)
 
 -- automata with caches of another capacity are of the same patterns
-unfoldable pub built_grown : (config : Config) (texts : List (List ℕ)) (kind : MatchKind) (g : Growing) (p : Pair) → AreBuiltOf config texts kind g.pair →
+built_grown : (config : Config) (texts : List (List ℕ)) (kind : MatchKind) (g : Growing) (p : Pair) → AreBuiltOf config texts kind g.pair →
     AreGrown g p → AreBuiltOf config texts kind p
 built_grown config texts kind g p it grown = record {
   trees = it.trees;
@@ -41,3 +41,8 @@ built_grown config texts kind g p it grown = record {
   mode = it.mode;
   utf8_trees = it.utf8_trees;
 }
+
+-- and of the same loops
+pub reported_grown : (config : Config) (texts : List (List ℕ)) (kind : MatchKind) (loops : Bool) (g : Growing) (p : Pair) →
+    AreReportedOf config texts kind loops g.pair → AreGrown g p → AreReportedOf config texts kind loops p
+reported_grown config texts kind loops g p it grown = (built_grown config texts kind g p it.0 grown, it.1)

@@ -1,4 +1,4 @@
-use Rattle.std.proofs.Common.{ℕ, List, Ok, subst, ◌∙◌, refl}
+use Rattle.std.proofs.Common.{ℕ, List, Ok, refl, subst, ◌∙◌}
 use Rattle.search_types.specs.Inputs.{Search}
 use Rattle.growing_regex.specs.Growing.{AnswersBy}
 use Rattle.line_search.specs.Searchers.{IsMatchReported, Sought}

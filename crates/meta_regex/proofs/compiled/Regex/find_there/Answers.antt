@@ -5,10 +5,10 @@ use Rattle.search_types.specs.Inputs.{Search}
 use Rattle.growing_regex.specs.Growing.{AnswersBy}
 use Rattle.pattern_text.specs.Words.{word_set}
 use Rattle.meta_regex.specs.declared.anchored.Tried.{Tried}
-use Rattle.meta_regex.specs.Regexes.{AreBuiltOf, config_by}
+use Rattle.meta_regex.specs.Regexes.{AreReportedOf, config_by}
 use Rattle.meta_regex.specs.Starts.{HasTriedSpan, IsTried, anchored_search}
 use Rattle.meta_regex.proofs.AnchoredLemmas.{anchored, has_tried_span, is_tried}
-use Rattle.meta_regex.proofs.CacheLemmas.{automata_kept, built_grown}
+use Rattle.meta_regex.proofs.CacheLemmas.{automata_kept, reported_grown}
 use Rattle.meta_regex.proofs.compiled.Regex.find_there.Goals as goal
 
 pub returns-clause-tried : goal.returns-clause-tried
@@ -17,8 +17,9 @@ returns-clause-tried c =
     let h = c.args.haystack.now in
     let by : AnswersBy c.args.cache.now.automata (anchored_search h c.args.at) (Ok c.in-Ok.found) =
     subst (λ (q : Search). AnswersBy c.args.cache.now.automata q (Ok c.in-Ok.found)) c.search_there.ensures c.in-Ok.ensures.answer in
-    let it : AreBuiltOf (config_by v) v.texts LeftmostFirst by.pair =
-    built_grown (config_by v) v.texts LeftmostFirst c.args.cache.now.automata by.pair c.requires.own.automata.0 by.grown in
+    let own : AreReportedOf (config_by v) v.texts LeftmostFirst v.loops by.pair =
+    reported_grown (config_by v) v.texts LeftmostFirst v.loops c.args.cache.now.automata by.pair c.requires.own.automata by.grown in
+    let it = own.0 in
     subst (λ (t : Tried). IsTried (config_by v) v.texts h c.args.at t) (sym c.result_of.ensures)
     (is_tried (config_by v) v.texts by.pair it h c.see_bytes.ensures c.requires.valid c.args.at c.requires.within c.in-Ok.found
     (c.searches_answer_leftmost_whatever_the_loops.ensures it.trees it.settings by.pair it.built it.kind_is (anchored_search h c.args.at)
@@ -31,9 +32,10 @@ returns-clause-preferred c loops =
     let h = c.args.haystack.now in
     let by : AnswersBy c.args.cache.now.automata (anchored_search h c.args.at) (Ok c.in-Ok.found) =
     subst (λ (q : Search). AnswersBy c.args.cache.now.automata q (Ok c.in-Ok.found)) c.search_there.ensures c.in-Ok.ensures.answer in
-    let it : AreBuiltOf (config_by v) v.texts LeftmostFirst by.pair =
-    built_grown (config_by v) v.texts LeftmostFirst c.args.cache.now.automata by.pair c.requires.own.automata.0 by.grown in
-    let read = c.requires.own.automata.1.0 loops in
+    let own : AreReportedOf (config_by v) v.texts LeftmostFirst v.loops by.pair =
+    reported_grown (config_by v) v.texts LeftmostFirst v.loops c.args.cache.now.automata by.pair c.requires.own.automata by.grown in
+    let it = own.0 in
+    let read = own.1.0 loops in
     subst (λ (t : Tried). HasTriedSpan (config_by v) v.texts h c.args.at t) (sym c.result_of.ensures)
     (has_tried_span (config_by v) v.texts by.pair it h c.see_bytes.ensures c.requires.valid c.args.at c.requires.within c.in-Ok.found read
     (c.searches_answer_what_trees_define.ensures it.trees it.settings by.pair it.built it.kind_is (anchored_search h c.args.at)

@@ -1,4 +1,4 @@
-use Rattle.std.proofs.Common.{◌∙◌, List, Option, ap, false, replicate, rules, subst, sym, ℕ, Bool}
+use Rattle.std.proofs.Common.{◌∙◌, ℕ, List, Bool, Option, ap, false, length, replicate, subst, sym}
 use Rattle.std.specs.Prelude.{IfSome}
 use Rattle.search_types.specs.declared.match_kind.MatchKind.TheVariants.{All as AllMatches}
 use Rattle.regex_pair.specs.Pairs.{Pair}
@@ -11,7 +11,7 @@ returns-clause-may c =
     let v = c.args.self.now in
     subst (MayMatch (config_by v) v.texts c.args.haystack.now) (sym c.in-Ok-tests_of.ensures)
     (c.in-Ok.ensures.may (config_by v) v.texts
-    (subst (λ (o : Option Pair). IfSome o (AreWordlessOf (config_by v) v.texts AllMatches))
-    c.in-Some-wordless_overlapping.is c.prepare_wordless_overlapping.ensures.wordless_overlapping)
+    (subst (λ (o : Option Pair). IfSome o (AreWordlessOf (config_by v) v.texts AllMatches)) c.in-Some-wordless_overlapping.is
+    c.prepare_wordless_overlapping.ensures.wordless_overlapping)
     (c.in-Some.ensures ∙ ap (λ (n : ℕ). replicate n false) c.pattern_count.ensures)
-    (search rules))
+    (ap length (sym c.in-Ok-tests_of.ensures) ∙ c.if-len-pattern_count.false ∙ c.pattern_count-2.ensures))
