@@ -2,9 +2,10 @@
 ghost use Rattle.std.specs.Prelude.{◌≡◌, ◌++◌, ◌∷◌, [], ℕ, ◌+◌, ◌≤◌, ◌==◌, List, None, OnOk, IfOk, drop, length, ◌<◌, ◌≢◌, take, true};
 ghost use Rattle.std.specs.List.{position};
 ghost use Rattle.grep_core.specs.Blocks.{SearchesBy, ReportsUpTo, finds_by, reported_bytes, counts_lines};
-ghost use Rattle.line_search.specs.Candidates.{HasMatchAt, IsLineStart};
+ghost use Rattle.line_search.specs.Candidates.{IsLineStart, IsNextLine};
 ghost use Rattle.grep_core.specs.ContextPrinting.{Waits};
 ghost use Rattle.line_search.specs.Lines.{SplitLine, searched};
+ghost use Rattle.grep_core.specs.Skipping.{AreWhole};
 ghost use Rattle.line_search.specs.Searchers.{IsMatchReported};
 
 use crate::line::Line;
@@ -12,12 +13,10 @@ use crate::looking::{look_at, shown_bytes};
 use crate::passing::skip_lines;
 use crate::progress::{Progress, Task, pass};
 use crate::reporter::report_line;
-use line_search::{Fault, Finder, feed_at, line_start};
+use line_search::{Fault, Finder, Reached, feed_at, line_start};
 use std::alloc::Global;
 
 /// Processes the whole lines at the start of a block. Returns the number of their bytes.
-///
-/// In each round these are the lines before the next one that may have a match, and that line if it is known to have one or is the first.
 pub(crate) fn report_block(
     alloc: Global,
     out: &mut Vec<u8>,
@@ -42,25 +41,7 @@ pub(crate) fn report_block(
             Ok(reached) => reached,
             Err(e) => return Err(e),
         };
-        let start = reached.start;
-        match skip_lines(alloc, out, task, progress, &lines[done..start]) {
-            Ok(()) => {}
-            Err(e) => return Err(e),
-        }
-        if done < start && !reached.has {
-            done = start;
-            continue;
-        }
-        done = match report_here(
-            alloc,
-            out,
-            finder,
-            task,
-            progress,
-            lines,
-            start,
-            reached.has,
-        ) {
+        done = match report_reached(alloc, out, finder, task, progress, lines, done, reached) {
             Ok(next) => next,
             Err(e) => return Err(e),
         };
@@ -68,9 +49,9 @@ pub(crate) fn report_block(
     Ok(done)
 }
 
-/// Processes the line that starts at an offset, if a line feed ends it. `is_known` says whether it is known to have a match. Returns the
-/// offset after the line.
-fn report_here(
+/// Processes lines from the start of a line on: those before the next line that may have a match, which a search reached, and that line if
+/// it is known to have one or is the first. Returns the offset after them. The block consists of whole lines.
+fn report_reached(
     alloc: Global,
     out: &mut Vec<u8>,
     finder: &mut Finder<'_>,
@@ -78,37 +59,37 @@ fn report_here(
     progress: &mut Progress,
     block: &[u8],
     at: usize,
-    is_known: bool,
+    reached: Reached,
 ) -> Result<usize, Fault>
     requires waits { Waits task.what.now progress.old.telling.course }
-    requires within { at ≤ length block.now }
-    requires known { is_known ≡ true → HasMatchAt finder.old.how finder.old.texts block.now at }
+    requires below { at < length block.now }
+    requires whole { AreWhole block.now }
+    requires next { IsNextLine finder.old.how finder.old.texts block.now at reached }
     ensures same { finder.new ≡ finder.old }
     ensures waits { OnOk result (Waits task.entry.what.now progress.new.telling.course) }
+    ensures on { IfOk result (λ next. at < next) }
     ensures within { IfOk result (λ next. next ≤ length block.now) }
-    ensures on { position (λ b. b == 10) (drop at block.now) ≢ None → IfOk result (λ next. at < next) }
-    ensures from { IfOk result (λ next. at ≤ next) }
-    ensures starts { IfOk result (λ next. at < next → IsLineStart block.now next) }
+    ensures starts { IfOk result (λ next. IsLineStart block.now next) }
     ensures reports { IfOk result (λ next. ReportsUpTo task.entry finder.old progress.old progress.new out.old.items out.new.items
         (drop at block.now) (drop next block.now)) }
 {
-    let Some(len) = feed_at(&block[at..]) else {
-        return Ok(at);
-    };
-    match report_one(
-        alloc,
-        out,
-        finder,
-        task,
-        progress,
-        &block[at..at + len],
-        true,
-        is_known,
-    ) {
+    let start = reached.start;
+    match skip_lines(alloc, out, task, progress, &block[at..start]) {
         Ok(()) => {}
         Err(e) => return Err(e),
     }
-    Ok(at + len + 1)
+    if at < start && !reached.has {
+        return Ok(start);
+    }
+    let len = match feed_at(&block[start..]) {
+        Some(len) => len,
+        None => return Ok(start),
+    };
+    let line = &block[start..start + len];
+    match report_one(alloc, out, finder, task, progress, line, true, reached.has) {
+        Ok(()) => Ok(start + len + 1),
+        Err(e) => Err(e),
+    }
 }
 
 /// Processes one line. The line is given without its line feed. `is_known` says whether it is known to have a match.
