@@ -1,13 +1,13 @@
-use Rattle.std.proofs.Common.{◌≡◌, ℕ, List, Ok, option_map, refl, subst, true}
+use Rattle.std.proofs.Common.{◌≡◌, ℕ, List, Ok, option_map, subst, true, sym, ◌∙◌}
 use Rattle.search_types.specs.Inputs.{Search}
-use Rattle.growing_regex.specs.Growing.{AnswersBy}
+use Rattle.growing_regex.specs.Growing.{AnswersBy, Growing}
 use Rattle.pattern_search.specs.Searches.{whole_search}
 use Rattle.line_search.specs.FoundSpans.{IsFoundSpan}
 use Rattle.line_search.specs.LineMatchers.{span_pair}
 use Rattle.line_search.specs.Searchers.{Sought}
 use Rattle.line_search.specs.declared.patterns.PatternOptions.{PatternOptions}
 use Rattle.line_search.proofs.FoundSpanLemmas.{found_told}
-use Rattle.line_search.proofs.OwnLemmas.{own_kept}
+use Rattle.line_search.proofs.OwnLemmas.{IsOwn}
 use Rattle.line_search.proofs.finder.Finder.find_from.Goals as goal
 
 pub returns-in-Ok-clause-reported : goal.returns-in-Ok-clause-reported
@@ -27,21 +27,41 @@ returns-clause-reported c asked =
     c.self.invariant.1 c.in_ok-found.ensures.reported)
 
 pub invariant_of-self : goal.invariant_of-self
-invariant_of-self c =
-    own_kept c.self.inside.patterns.now c.self.inside.with_matches c.self.inside.searcher _ c.self.inside.slow _
-    c.find.ensures.same refl c.self.invariant
+invariant_of-self c = (
+  subst (λ (x : Growing). IsOwn c.self.inside.patterns.now.0 c.self.inside.patterns.now.1 c.self.inside.with_matches x.pair)
+      (sym c.find.ensures.same) c.self.invariant.0,
+  c.self.invariant.1,
+  c.self.invariant.2,
+  c.self.invariant.3,
+  c.self.invariant.4,
+)
 
 pub invariant_of-self-then-lacks_memory : goal.invariant_of-self-then-lacks_memory
-invariant_of-self-then-lacks_memory c =
-    own_kept c.self.inside.patterns.now c.self.inside.with_matches c.self.inside.searcher _ c.self.inside.slow _
-    c.find.ensures.same refl c.self.invariant
+invariant_of-self-then-lacks_memory c = (
+  subst (λ (x : Growing). IsOwn c.self.inside.patterns.now.0 c.self.inside.patterns.now.1 c.self.inside.with_matches x.pair)
+      (sym c.find.ensures.same) c.self.invariant.0,
+  c.self.invariant.1,
+  c.self.invariant.2,
+  c.self.invariant.3,
+  c.self.invariant.4,
+)
 
 pub invariant_of-self-in_err-found : goal.invariant_of-self-in_err-found
-invariant_of-self-in_err-found c =
-    own_kept c.self.inside.patterns.now c.self.inside.with_matches c.self.inside.searcher _ c.self.inside.slow _
-    c.find.ensures.same c.find_from.ensures.same c.self.invariant
+invariant_of-self-in_err-found c = (
+  subst (λ (x : Growing). IsOwn c.self.inside.patterns.now.0 c.self.inside.patterns.now.1 c.self.inside.with_matches x.pair)
+      (sym c.find.ensures.same) c.self.invariant.0,
+  c.find_from.ensures.same ∙ c.self.invariant.1,
+  c.self.invariant.2,
+  c.self.invariant.3,
+  c.self.invariant.4,
+)
 
 pub invariant_of-self-2 : goal.invariant_of-self-2
-invariant_of-self-2 c =
-    own_kept c.self.inside.patterns.now c.self.inside.with_matches c.self.inside.searcher _ c.self.inside.slow _
-    c.find.ensures.same c.find_from.ensures.same c.self.invariant
+invariant_of-self-2 c = (
+  subst (λ (x : Growing). IsOwn c.self.inside.patterns.now.0 c.self.inside.patterns.now.1 c.self.inside.with_matches x.pair)
+      (sym c.find.ensures.same) c.self.invariant.0,
+  c.find_from.ensures.same ∙ c.self.invariant.1,
+  c.self.invariant.2,
+  c.self.invariant.3,
+  c.self.invariant.4,
+)

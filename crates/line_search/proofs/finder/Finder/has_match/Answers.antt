@@ -1,10 +1,10 @@
-use Rattle.std.proofs.Common.{ℕ, List, Ok, refl, subst, ◌∙◌}
+use Rattle.std.proofs.Common.{ℕ, List, Ok, subst, ◌∙◌, sym}
 use Rattle.search_types.specs.Inputs.{Search}
-use Rattle.growing_regex.specs.Growing.{AnswersBy}
+use Rattle.growing_regex.specs.Growing.{AnswersBy, Growing}
 use Rattle.line_search.specs.Searchers.{IsMatchReported, Sought}
 use Rattle.line_search.specs.declared.patterns.PatternOptions.{PatternOptions}
 use Rattle.line_search.proofs.MatchLemmas.{progress_of}
-use Rattle.line_search.proofs.OwnLemmas.{own_kept}
+use Rattle.line_search.proofs.OwnLemmas.{IsOwn}
 use Rattle.line_search.proofs.finder.Finder.has_match.Goals as goal
 
 pub returns-in-Ok-clause-reported : goal.returns-in-Ok-clause-reported
@@ -22,21 +22,41 @@ returns-clause-reported c =
     c.in_ok-has.ensures.reported)
 
 pub invariant_of-self : goal.invariant_of-self
-invariant_of-self c =
-    own_kept c.self.inside.patterns.now c.self.inside.with_matches c.self.inside.searcher _ c.self.inside.slow _
-    c.find.ensures.same refl c.self.invariant
+invariant_of-self c = (
+  subst (λ (x : Growing). IsOwn c.self.inside.patterns.now.0 c.self.inside.patterns.now.1 c.self.inside.with_matches x.pair)
+      (sym c.find.ensures.same) c.self.invariant.0,
+  c.self.invariant.1,
+  c.self.invariant.2,
+  c.self.invariant.3,
+  c.self.invariant.4,
+)
 
 pub invariant_of-self-then-lacks_memory : goal.invariant_of-self-then-lacks_memory
-invariant_of-self-then-lacks_memory c =
-    own_kept c.self.inside.patterns.now c.self.inside.with_matches c.self.inside.searcher _ c.self.inside.slow _
-    c.find.ensures.same refl c.self.invariant
+invariant_of-self-then-lacks_memory c = (
+  subst (λ (x : Growing). IsOwn c.self.inside.patterns.now.0 c.self.inside.patterns.now.1 c.self.inside.with_matches x.pair)
+      (sym c.find.ensures.same) c.self.invariant.0,
+  c.self.invariant.1,
+  c.self.invariant.2,
+  c.self.invariant.3,
+  c.self.invariant.4,
+)
 
 pub invariant_of-self-in_err-has : goal.invariant_of-self-in_err-has
-invariant_of-self-in_err-has c =
-    own_kept c.self.inside.patterns.now c.self.inside.with_matches c.self.inside.searcher _ c.self.inside.slow _
-    c.find.ensures.same c.has_match.ensures.same c.self.invariant
+invariant_of-self-in_err-has c = (
+  subst (λ (x : Growing). IsOwn c.self.inside.patterns.now.0 c.self.inside.patterns.now.1 c.self.inside.with_matches x.pair)
+      (sym c.find.ensures.same) c.self.invariant.0,
+  c.has_match.ensures.same ∙ c.self.invariant.1,
+  c.self.invariant.2,
+  c.self.invariant.3,
+  c.self.invariant.4,
+)
 
 pub invariant_of-self-2 : goal.invariant_of-self-2
-invariant_of-self-2 c =
-    own_kept c.self.inside.patterns.now c.self.inside.with_matches c.self.inside.searcher _ c.self.inside.slow _
-    c.find.ensures.same c.has_match.ensures.same c.self.invariant
+invariant_of-self-2 c = (
+  subst (λ (x : Growing). IsOwn c.self.inside.patterns.now.0 c.self.inside.patterns.now.1 c.self.inside.with_matches x.pair)
+      (sym c.find.ensures.same) c.self.invariant.0,
+  c.has_match.ensures.same ∙ c.self.invariant.1,
+  c.self.invariant.2,
+  c.self.invariant.3,
+  c.self.invariant.4,
+)
