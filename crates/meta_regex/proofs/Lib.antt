@@ -9,7 +9,6 @@ pub mod NextLemmas
 mod OrderLemmas
 mod RoundLemmas
 mod RunLemmas
-mod CacheLemmas
 mod CharLemmas
 mod PartLemmas
 mod SplittingLemmas

@@ -2,7 +2,7 @@
 ghost use Rattle.std.specs.Prelude.{IfErr, IfOk, IfSome, ℕ, List};
 ghost use Rattle.regex_syntax.specs.declared.Config.{Config as TextConfig};
 ghost use Rattle.search_types.specs.declared.match_kind.MatchKind.TheVariants.{All as AllMatches, LeftmostFirst};
-ghost use Rattle.meta_regex.specs.Caches.{IsCacheOf, KeepsCapacity};
+ghost use Rattle.meta_regex.specs.Caches.{IsCacheOf};
 ghost use Rattle.meta_regex.specs.Fallbacks.{AreFallbacksOf};
 ghost use Rattle.meta_regex.specs.Regexes.{AreBuiltOf, IsSearchError, config_by};
 ghost use Rattle.meta_regex.specs.Wordless.{AreWordlessOf};
@@ -13,8 +13,7 @@ use crate::errors::SearchError;
 use crate::fallback::{Fallbacks, fallbacks_of};
 use crate::overlapping::OverlappingSearcher;
 use crate::texts::borrowed;
-use crate::wordless::wordless_pair;
-use growing_regex::{GrowingRegex, shared};
+use crate::wordless::{WordlessSearcher, wordless_pair};
 use literal_search::Effort;
 use search_types::MatchKind;
 use std::alloc::{AllocError, Global};
@@ -25,19 +24,20 @@ use std::alloc::{AllocError, Global};
 /// and the toolchain's programs.
 #[derive(Drop)]
 pub struct Cache {
-    pub(crate) automata: GrowingRegex,
+    pub(crate) pair: regex_pair::regex::Cache,
     pub(crate) overlapping: Option<OverlappingSearcher>,
     pub(crate) fallbacks: Option<Fallbacks>,
-    pub(crate) wordless: Option<GrowingRegex>,
+    pub(crate) wordless: Option<WordlessSearcher>,
     pub(crate) wordless_overlapping: Option<OverlappingSearcher>,
     /// Whether searches for literals pay.
     pub(crate) effort: Effort,
 }
 
 impl Cache {
-    /// How often the caches of the automata were cleared, those included that have been replaced by larger ones. The greatest number stands for any number above it.
+    /// How often the caches of the automata were cleared. The greatest number stands for any number above it.
     pub fn clear_count(&self) -> usize {
-        let clears = self.automata.clear_count();
+        let forward = self.pair.forward().clear_count();
+        let clears = forward.saturating_add(self.pair.reverse().clear_count());
         let clears = match &self.overlapping {
             Some(searcher) => clears.saturating_add(searcher.clear_count()),
             None => clears,
@@ -54,7 +54,7 @@ impl Cache {
 
     /// The bytes that the caches of the automata are estimated to need.
     pub fn memory_usage(&self) -> usize {
-        let usage = self.automata.memory_usage();
+        let usage = self.pair.memory_usage();
         let usage = match &self.overlapping {
             Some(searcher) => usage.saturating_add(searcher.memory_usage()),
             None => usage,
@@ -75,10 +75,9 @@ impl Regex {
     pub fn create_cache(&self, alloc: Global) -> Result<Cache, AllocError>
         ensures { IfOk result (IsCacheOf self.now) }
     {
-        let pair = self.pair()?;
-        let automata = GrowingRegex::new(alloc, pair, self.options().largest_capacity())?;
+        let pair = self.pair().create_cache(alloc)?;
         Ok(Cache {
-            automata,
+            pair,
             overlapping: None,
             fallbacks: None,
             wordless: None,
@@ -120,16 +119,13 @@ impl Regex {
     }
 
     /// What finds the least start of a match without looks at words, if it can be made.
-    fn wordless_searcher(&self, alloc: Global) -> Option<GrowingRegex>
-        ensures { IfSome result (λ g. AreWordlessOf (config_by self.now) self.now.texts LeftmostFirst g.pair × KeepsCapacity self.now g) }
+    fn wordless_searcher(&self, alloc: Global) -> Option<WordlessSearcher>
+        ensures { IfSome result (AreWordlessOf (config_by self.now) self.now.texts LeftmostFirst) }
     {
         let Some(pair) = self.wordless_pair(alloc, MatchKind::LeftmostFirst) else {
             return None;
         };
-        let Ok(regex) = shared(alloc, pair) else {
-            return None;
-        };
-        match GrowingRegex::new(alloc, regex, self.options().largest_capacity()) {
+        match WordlessSearcher::of(alloc, pair) {
             Ok(searcher) => Some(searcher),
             Err(_) => None,
         }
