@@ -1,7 +1,7 @@
 //! The outcome of a search.
 ghost use Rattle.std.specs.Prelude.{◌≡◌, nat_lt};
 ghost use Rattle.hirgrep_main.specs.Decisions.{prints_nothing, status};
-ghost use Rattle.hirgrep_main.specs.Outcomes.{after_result, after_search, is_of_output, known_of, no_outcome};
+ghost use Rattle.hirgrep_main.specs.Outcomes.{Continues, after_result, after_search, is_of_output, known_of, no_outcome};
 ghost use Rattle.hirgrep_main.specs.Outcomes.{with_failure, with_file, with_lines};
 
 use crate::options::asked::Asked;
@@ -209,7 +209,9 @@ impl Outcome {
     }
 
     /// Prints the sum of what was searched, as JSON, unless the output can't be written.
-    pub fn write_summary(&mut self, rt: &HostRuntime) -> Result<(), AllocError> {
+    pub fn write_summary(&mut self, rt: &HostRuntime) -> Result<(), AllocError>
+        ensures { Continues self.old self.new }
+    {
         if self.ended {
             return Ok(());
         }
