@@ -13,7 +13,7 @@ use Rattle.grep_core.specs.Reporting.{needs_spans, prints_lines}
 use Rattle.line_search.specs.Searchers.{SearchesFor, Sought}
 use Rattle.hirgrep_main.specs.declared.inputs.binary.Binary.{Binary}
 use Rattle.hirgrep_main.specs.declared.inputs.binary.Binary.TheVariants.{AsText, Notice, NoMatch}
-use Rattle.hirgrep_main.specs.Binaries.{first_bytes, first_len, has_zero, is_binary, notices, options_by, remaining_of, searched_bytes}
+use Rattle.hirgrep_main.specs.Binaries.{first_len, has_zero, is_binary, notices, options_by, read_ahead, remaining_of, searched_bytes}
 use Rattle.hirgrep_main.specs.Readings.{is_by_lines, lists_in}
 use Rattle.hirgrep_main.specs.Tasks.{IsInputReported, ReadPatterns, patterns_by}
 use Rattle.hirgrep_main.specs.declared.inputs.reading.Reading.{Reading}
@@ -169,7 +169,7 @@ if_read P (Some text) (Some rest) first shown same read is h =
 -- What holds of what is searched by the first bytes and the others holds by all of them, also if there are no first bytes since every input is
 -- text.
 if_first : (P : OutputOptions → List ℕ → Type 0) (b : Binary) (w : OutputOptions) (old mid : Option (List ℕ)) (first shown : List ℕ)
-    → shown ≡ first → Consumes old mid first → IfSome old (λ text. first ≡ first_bytes b text)
+    → shown ≡ first → Consumes old mid first → IfSome old (λ text. first ≡ read_ahead b text)
     → IfSome mid (λ rest. P (options_by b (has_zero shown) w) (searched_bytes b (has_zero shown) (shown ++ rest)))
     → IfSome old (λ text. P (options_by b (is_binary text) w) (searched_bytes b (is_binary text) text))
 if_first P AsText w None mid first shown same read is h = _
@@ -186,7 +186,7 @@ pub input_reported : (s : Sought) (reading : Reading) (b : Binary) (w v : Output
     (r : Result ℕ Fault) (first shown : List ℕ) (given : Binary) (zero made : Bool) (name printed : List ℕ)
     (all whole : List ℕ → OutputOptions → ReadPatterns → List ℕ → List ℕ) (count : List ℕ → OutputOptions → ReadPatterns → List ℕ → ℕ)
     → v ≡ options_by b zero w → printed ≡ name → given ≡ b → made ≡ zero → zero ≡ has_zero shown → shown ≡ first
-    → Consumes old mid first → IfSome old (λ text. first ≡ first_bytes b text) → inner ≡ option_append (Some shown) mid
+    → Consumes old mid first → IfSome old (λ text. first ≡ read_ahead b text) → inner ≡ option_append (Some shown) mid
     → ((by : SearchesFor s (lists_in reading v)) → IfSome (remaining_of given made inner) (λ text. IsInputReported before after r
     (all printed v (patterns_by by) text) (whole printed v (patterns_by by) text) (count printed v (patterns_by by) text)))
     → (by : SearchesFor s (lists_in reading w)) → IfSome old (λ text. IsInputReported before after r

@@ -23,10 +23,10 @@ abbrev pub first_len : ℕ
 first_len = 98304
 
 -- The bytes at the beginning of an input that are read before its search: none if every input is text.
-abbrev pub first_bytes : Binary → List ℕ → List ℕ
-first_bytes AsText text = []
-first_bytes Notice text = take first_len text
-first_bytes NoMatch text = take first_len text
+abbrev pub read_ahead : Binary → List ℕ → List ℕ
+read_ahead AsText text = []
+read_ahead Notice text = take first_len text
+read_ahead NoMatch text = take first_len text
 
 abbrev pub has_zero : List ℕ → Bool
 has_zero bytes = list_any (λ b. b == 0) bytes

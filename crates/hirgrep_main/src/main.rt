@@ -30,27 +30,53 @@ use crate::results::stop::Stop;
 use crate::searching::Files;
 use clap::ArgMatches;
 use grep_options::is_set;
+use std::alloc::AllocError;
 use std::env;
 use std::io::Write;
 use std::process::ExitCode;
 use std::rt::Runtime;
 
-/// Prints the types of files.
-fn print_types(rt: &HostRuntime, matches: &ArgMatches<'_>) -> Result<(), Stop> {
-    let Some(types) = types_changed(rt, known_types(), matches)? else {
-        return Err(Stop::With(2));
-    };
-    let text = list_of_types(rt.alloc(), &types)?;
-    if let Err(e) = rt.stdout().write_all(text.as_bytes()) {
-        report_output(rt, &e);
-        return Err(Stop::With(2));
+/// The list of types of files, as options change them. Returns none after reporting a definition that can't be read.
+fn types_listed(rt: &HostRuntime, matches: &ArgMatches<'_>) -> Result<Option<String>, AllocError> {
+    match types_changed(rt, known_types(), matches)? {
+        Some(types) => {
+            let text = list_of_types(rt.alloc(), &types);
+            drop(types);
+            Ok(Some(text?))
+        }
+        None => Ok(None),
     }
-    Ok(())
+}
+
+/// Prints a text, and returns the exit status.
+fn print_text(rt: &HostRuntime, text: &str) -> u8 {
+    match rt.stdout().write_all(text.as_bytes()) {
+        Ok(()) => 0,
+        Err(e) => {
+            report_output(rt, &e);
+            2
+        }
+    }
+}
+
+/// Prints the types of files, and returns the exit status.
+fn print_types(rt: &HostRuntime, matches: &ArgMatches<'_>) -> Result<u8, AllocError> {
+    match types_listed(rt, matches)? {
+        Some(text) => {
+            let status = print_text(rt, text.as_str());
+            drop(text);
+            Ok(status)
+        }
+        None => Ok(2),
+    }
 }
 
 /// Does what options ask for instead of a search, and returns the exit status: prints the types of files, or reports that basic regular
 /// expressions aren't supported. Returns none if files are to be searched.
-fn status_without_search(rt: &HostRuntime, matches: &ArgMatches<'_>) -> Result<Option<u8>, Stop>
+fn status_without_search(
+    rt: &HostRuntime,
+    matches: &ArgMatches<'_>,
+) -> Result<Option<u8>, AllocError>
     ensures { is_set (found_of matches.now) (codes "basic-regexp") ≡ true → IfOk result (λ status. status ≡ Some 2) }
 {
     if is_set(matches, "basic-regexp") {
@@ -60,8 +86,8 @@ fn status_without_search(rt: &HostRuntime, matches: &ArgMatches<'_>) -> Result<O
         return Ok(Some(2));
     }
     if is_set(matches, "type-list") {
-        print_types(rt, matches)?;
-        return Ok(Some(0));
+        let status = print_types(rt, matches)?;
+        return Ok(Some(status));
     }
     Ok(None)
 }

@@ -232,7 +232,7 @@ fn search_folder(
 }
 
 /// What an argument names.
-#[derive(Clone, Copy, PartialEq, Eq)]
+#[derive(Clone, Copy)]
 enum Named {
     Input,
     File,

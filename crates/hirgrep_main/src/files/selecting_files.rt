@@ -31,7 +31,7 @@ use std::alloc::{AllocError, Global};
 use std::rt::Runtime;
 
 /// Which ignore files of folders are read.
-#[derive(Clone, Copy, PartialEq, Eq)]
+#[derive(Clone, Copy)]
 pub struct Ignoring {
     pub reads: bool,
     /// `.ignore` and `.rgignore`.

@@ -1,7 +1,7 @@
 //! The first bytes of an input, which decide whether it is binary, and what is searched of a binary one.
 ghost use Rattle.std.specs.Prelude.{◌≡◌, ◌<◌, ◌≤◌, ◌+◌, IfOk, IfSome, drop, length, map, take};
 ghost use Rattle.std.specs.Io.KnownBytes.{Consumes, IsAtEnd};
-ghost use Rattle.hirgrep_main.specs.Binaries.{first_bytes, first_len, has_zero, with_feeds, zero_as_feed};
+ghost use Rattle.hirgrep_main.specs.Binaries.{first_len, has_zero, read_ahead, with_feeds, zero_as_feed};
 ghost use Rattle.std.specs.Io.{ReadsAtMost};
 ghost use Rattle.std.specs.Io.KnownBytes.{ReadConsumes};
 
@@ -68,9 +68,9 @@ fn read_first<R: Read>(alloc: Global, reader: &mut R) -> io::Result<Vec<u8>>
 }
 
 /// The first bytes of a reader, if they decide what is printed. If every input is text, nothing is read.
-pub fn first_bytes<R: Read>(alloc: Global, binary: Binary, reader: &mut R) -> Result<Vec<u8>, Fault>
+pub fn read_ahead<R: Read>(alloc: Global, binary: Binary, reader: &mut R) -> Result<Vec<u8>, Fault>
     ensures read { IfOk result (λ first. Consumes (R.remaining reader.old) (R.remaining reader.new) first.items) }
-    ensures first { IfOk result (λ first. IfSome (R.remaining reader.old) (λ text. first.items ≡ first_bytes binary text)) }
+    ensures first { IfOk result (λ first. IfSome (R.remaining reader.old) (λ text. first.items ≡ read_ahead binary text)) }
 {
     if binary == Binary::AsText {
         return Ok(Vec::new(alloc));

@@ -6,7 +6,7 @@ ghost use Rattle.hirgrep_main.specs.Texts.{printed_name};
 ghost use Rattle.hirgrep_main.specs.Tasks.{IsInputReported, count_of, patterns_by, report_in, whole_report_in};
 
 use crate::inputs::binary::is_noticed;
-use crate::inputs::first_bytes::{Searched, first_bytes, has_zero};
+use crate::inputs::first_bytes::{Searched, has_zero, read_ahead};
 use crate::inputs::reporting::{is_plain, options_for, report_otherwise};
 use crate::results::messages::report_reason;
 use crate::results::outcome::Outcome;
@@ -58,7 +58,7 @@ pub fn report_one<R: Read, W: Write>(
     let Ok(printed) = printed_name(alloc, task.hides_controls, name) else {
         return Err(Fault::NoMemory);
     };
-    let first = match first_bytes(alloc, task.asked.binary, reader) {
+    let first = match read_ahead(alloc, task.asked.binary, reader) {
         Ok(first) => first,
         Err(e) => return Err(e),
     };

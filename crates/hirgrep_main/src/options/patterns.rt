@@ -184,7 +184,7 @@ pub fn names_of_files<'m>(matches: &'m ArgMatches<'_>, lists: bool) -> &'m [&'m 
     }
     match words.split_first() {
         Some((_, names)) => names,
-        None => &[],
+        None => words,
     }
 }
 
