@@ -398,16 +398,40 @@ fn default_paths<'a>(directories: Directories) -> &'a [&'a str] {
 
 /// The paths of what is searched: what arguments name, or the current folder or standard input if they name nothing. There is none if no line
 /// can be selected.
-fn paths_of<'a>(asked: &Asked, patterns: &[String], files: Files<'a>) -> &'a [&'a str]
+fn paths_of<'a>(
+    asked: &Asked,
+    directories: Directories,
+    patterns: &[String],
+    files: Files<'a>,
+) -> &'a [&'a str]
     ensures { selects_none asked.now (map string_bytes patterns.now) ≡ true → files.entry.selection.now.lists ≡ false → result.now ≡ [] }
 {
     if !files.selection.lists && selects_none(asked, patterns) {
         return &[];
     }
     if files.names.is_empty() {
-        return default_paths(asked.directories);
+        return default_paths(directories);
     }
     files.names
+}
+
+/// Prints what is printed after all files: the sum of what was searched, and statistics.
+fn conclude(
+    rt: &HostRuntime,
+    finder: &Finder<'_>,
+    asked: &Asked,
+    outcome: &mut Outcome,
+) -> Result<(), AllocError>
+    ensures none { prints_summary asked.now ≡ false → outcome.new ≡ outcome.old }
+    ensures continues { Continues outcome.old outcome.new }
+{
+    if prints_summary(asked) {
+        outcome.write_summary(rt)?;
+    }
+    if asked.stats {
+        outcome.report_stats(rt, finder);
+    }
+    Ok(())
 }
 
 /// Searches what arguments name, and prints what is printed after all files. Names are printed if several files may be searched, or if options
@@ -425,7 +449,10 @@ pub fn search_files(
     ensures continues { Continues outcome.old outcome.new }
 {
     let searched = with_folders(asked, files.selection.lists);
-    let paths = paths_of(&searched, patterns, files);
+    let paths = paths_of(asked, searched.directories, patterns, files);
+    if paths.is_empty() {
+        return conclude(rt, finder, asked, outcome);
+    }
     let task = task_of(rt, &searched, files);
     for path in paths {
         let named = named_at(rt, path);
@@ -437,11 +464,5 @@ pub fn search_files(
             break;
         }
     }
-    if prints_summary(asked) {
-        outcome.write_summary(rt)?;
-    }
-    if asked.stats {
-        outcome.report_stats(rt, finder);
-    }
-    Ok(())
+    conclude(rt, finder, asked, outcome)
 }
