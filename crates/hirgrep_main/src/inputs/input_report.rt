@@ -58,12 +58,13 @@ pub fn report_one<R: Read, W: Write>(
     let Ok(printed) = printed_name(alloc, task.hides_controls, name) else {
         return Err(Fault::NoMemory);
     };
-    let first = match read_ahead(alloc, task.asked.binary, reader) {
-        Ok(first) => first,
+    let ahead = match read_ahead(alloc, task.asked.binary, reader) {
+        Ok(ahead) => ahead,
         Err(e) => return Err(e),
     };
-    let zero = has_zero(&first);
-    let mut input = Searched::new(first.as_slice().chain(reader), task.asked.binary, zero);
+    let first = ahead.as_slice();
+    let zero = has_zero(first);
+    let mut input = Searched::new(first.chain(reader), task.asked.binary, zero);
     let what = options_for(task, zero);
     let name = printed.as_str();
     let bytes = name.as_bytes();

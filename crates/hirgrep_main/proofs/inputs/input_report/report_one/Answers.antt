@@ -19,7 +19,7 @@ returns-then-not-is_plain-clause-reported g c =
     input_reported c.args.finder.now c.args.task.asked.now.reading c.args.task.asked.now.binary (options_in c.args.task) c.options_for-what.result
     (g.R.Read.remaining c.args.reader.now) (g.R.Read.remaining c.read_ahead.new.reader) _
     (g.W.Write.contents c.args.writer.now.writer) (g.W.Write.contents c.report_otherwise-reported.new.writer.writer) c.report_otherwise-reported.result
-    c.in-Ok-read_ahead.first.items c.as_slice.result.now c.new-input.result.binary c.has_zero-zero.result c.new-input.result.zero
+    c.in-Ok-read_ahead.ahead.items c.as_slice-first.result.now c.new-input.result.binary c.has_zero-zero.result c.new-input.result.zero
     (printed_name c.args.task.hides_controls c.args.name.now) c.as_bytes-bytes.result.now
     (λ name v m text. report_by r (is_headed c.args.task.asked.now.heading v.print) c.args.task v c.args.outcome m name text)
     (λ name v m text. whole_report_by r (is_headed c.args.task.asked.now.heading v.print) c.args.task v c.args.outcome m name text)
@@ -36,7 +36,7 @@ returns-clause-reported g c =
     input_reported c.args.finder.now c.args.task.asked.now.reading c.args.task.asked.now.binary (options_in c.args.task) c.options_for-what.result
     (g.R.Read.remaining c.args.reader.now) (g.R.Read.remaining c.read_ahead.new.reader) _
     (g.W.Write.contents c.args.writer.now.writer) (g.W.Write.contents c.report_input-reported.new.writer) c.report_input-reported.result
-    c.in-Ok-read_ahead.first.items c.as_slice.result.now c.new-input.result.binary c.has_zero-zero.result c.new-input.result.zero
+    c.in-Ok-read_ahead.ahead.items c.as_slice-first.result.now c.new-input.result.binary c.has_zero-zero.result c.new-input.result.zero
     (printed_name c.args.task.hides_controls c.args.name.now) c.as_bytes-bytes.result.now
     (λ name v m text. report_by r (is_headed c.args.task.asked.now.heading v.print) c.args.task v c.args.outcome m name text)
     (λ name v m text. whole_report_by r (is_headed c.args.task.asked.now.heading v.print) c.args.task v c.args.outcome m name text)
