@@ -182,10 +182,10 @@ pub fn names_of_files<'m>(matches: &'m ArgMatches<'_>, lists: bool) -> &'m [&'m 
     if lists || gives_patterns(matches) {
         return words;
     }
-    match words.split_first() {
-        Some((_, names)) => names,
-        None => words,
-    }
+    let Some((_, names)) = words.split_first() else {
+        return words;
+    };
+    names
 }
 
 /// The patterns that are searched for, as they are given. The files of which they are read are appended to a list. If there is none, or a file
