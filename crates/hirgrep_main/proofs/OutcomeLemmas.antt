@@ -1,6 +1,6 @@
 -- What came of files stays, whatever comes of the next ones.
 use Rattle.std.proofs.Common.{◌∙◌, ◌≡◌, ℕ, Bool, true, false, if◌then◌else◌, ◌||◌, ◌&&◌, nat_lt, ap, sym, subst, refl}
-use Rattle.std.specs.Prelude.{Result, Ok, Err}
+use Rattle.std.specs.Prelude.{Result, Ok, Err, IfOk}
 use Rattle.json_events.specs.declared.stats.Stats.{Stats}
 use Rattle.line_search.specs.declared.fault.Fault.{Fault}
 use Rattle.grep_core.specs.declared.output_options.Print.{Print}
@@ -59,3 +59,7 @@ unrefused {a = a} refused e f = e ∙ ap (λ (r : Bool). if r then with_failure 
 
 pub tries_after : {a b c : Outcome} → b ≡ a → Tries b c → Tries a c
 tries_after {c = c} e t = subst (λ (x : Outcome). Tries x c) e t
+
+-- What holds of the value of a result that is known.
+pub if_ok : {A E : Type 0} (r : Result A E) (a : A) (P : A → Type 0) → r ≡ Ok a → P a → IfOk r P
+if_ok r a P e p = subst (λ x. IfOk x P) (sym e) p

@@ -1,6 +1,6 @@
 -- The report of one input, by its first bytes and the others.
 use Rattle.grep_core.specs.Headings.{under}
-use Rattle.std.proofs.Common.{◌≡◌, ◌∙◌, ℕ, Bool, true, false, ◌&&◌, List, [], ◌∷◌, ◌++◌, take, ap, sym, subst, refl, if◌then◌else◌}
+use Rattle.std.proofs.Common.{◌≡◌, ◌∙◌, ℕ, Bool, true, false, not, ◌&&◌, List, [], ◌∷◌, ◌++◌, take, ap, sym, subst, refl, if◌then◌else◌}
 use Rattle.std.specs.Prelude.{Option, Some, None, IfErr, IfOk, IfSome, OnOk, Result, Ok, Err}
 use Rattle.std.specs.Io.KnownBytes.{Appends, Consumes}
 use lib.Seq.{take-nil}
@@ -13,7 +13,7 @@ use Rattle.grep_core.specs.Reporting.{needs_spans, prints_lines}
 use Rattle.line_search.specs.Searchers.{SearchesFor, Sought}
 use Rattle.hirgrep_main.specs.declared.inputs.binary.Binary.{Binary}
 use Rattle.hirgrep_main.specs.declared.inputs.binary.Binary.TheVariants.{AsText, Notice, NoMatch}
-use Rattle.hirgrep_main.specs.Binaries.{first_len, has_zero, is_binary, notices, options_by, remaining_of, searched_bytes}
+use Rattle.hirgrep_main.specs.Binaries.{first_len, has_zero, is_binary, notices, options_by, read_ahead, remaining_of, searched_bytes}
 use Rattle.hirgrep_main.specs.Readings.{is_by_lines, lists_in}
 use Rattle.hirgrep_main.specs.Tasks.{IsInputReported, ReadPatterns, patterns_by}
 use Rattle.hirgrep_main.specs.declared.inputs.reading.Reading.{Reading}
@@ -41,14 +41,6 @@ searches_by r b zero w s by = record {
   names = by.names;
   named = by.named;
 }
-
--- An input that is read line by line.
-pub by_lines : (r : Reading) → is_by_lines r ≡ true → r ≡ Lines
-by_lines Lines e = refl
-by_lines Records e = cc
-by_lines Text e = cc
-by_lines Events e = cc
-by_lines TextEvents e = cc
 
 -- What the search of an input returned, as one record.
 gathered : (o old new : Option (List ℕ)) (r : Result ℕ Fault) (all whole : List ℕ → List ℕ) (count : List ℕ → ℕ)
@@ -108,7 +100,7 @@ part_under old new head [] (n, h) = (0, subst (Appends old new) (take-nil n) h)
 part_under old new head (b ∷ text) (n, h) = (n, h)
 
 -- That record for the options that an input has, and its name.
-pub reported_for : (s : Sought) (reading : Reading) (b : Binary) (zero : Bool) (w v : OutputOptions) (o old new : Option (List ℕ)) (r : Result ℕ Fault)
+reported_for : (s : Sought) (reading : Reading) (b : Binary) (zero : Bool) (w v : OutputOptions) (o old new : Option (List ℕ)) (r : Result ℕ Fault)
     (given name : List ℕ) (all whole : List ℕ → OutputOptions → ReadPatterns → List ℕ → List ℕ)
     (count : List ℕ → OutputOptions → ReadPatterns → List ℕ → ℕ) → v ≡ options_by b zero w → given ≡ name
     → ((by : SearchesFor s (lists_in reading v)) → IfSome o (λ text. IsInputReported old new r (all given v (patterns_by by) text)
@@ -123,25 +115,38 @@ reported_for s reading b zero w v o old new r given name all whole count same na
     (all given u (patterns_by it) text) (whole given u (patterns_by it) text) (count given u (patterns_by it) text))) same h
     (searches_by reading b zero w s by))
 
--- That record, which also depends on whether the input has a heading.
-pub reported_by : (s : Sought) (reading : Reading) (b : Binary) (zero : Bool) (w v : OutputOptions) (o old new : Option (List ℕ)) (r : Result ℕ Fault)
-    (given name : List ℕ) (headed has : Bool) (all whole : Bool → List ℕ → OutputOptions → ReadPatterns → List ℕ → List ℕ)
-    (count : List ℕ → OutputOptions → ReadPatterns → List ℕ → ℕ)
-    → v ≡ options_by b zero w → given ≡ name → headed ≡ has
-    → OnOk r ((by : SearchesFor s (lists_in reading v)) → IfSome o (λ text. Appends old new (all headed given v (patterns_by by) text)))
-    → IfOk r (λ n. (by : SearchesFor s (lists_in reading v)) → IfSome o (λ text. n ≡ count given v (patterns_by by) text))
-    → IfErr r (λ _. (by : SearchesFor s (lists_in reading v)) → IfSome o (λ text. (n : ℕ) × Appends old new (take n (whole headed given v (patterns_by by) text))))
-    → (by : SearchesFor s (lists_in reading w)) → IfSome o (λ text. IsInputReported old new r (all has name (options_by b zero w) (patterns_by by) text)
-    (whole has name (options_by b zero w) (patterns_by by) text) (count name (options_by b zero w) (patterns_by by) text))
-reported_by s reading b zero w v o old new r given name headed has all whole count same named is written counted part by =
-    subst (λ (h : Bool). IfSome o (λ text. IsInputReported old new r (all h name (options_by b zero w) (patterns_by by) text)
-    (whole h name (options_by b zero w) (patterns_by by) text) (count name (options_by b zero w) (patterns_by by) text))) is
-    (reported_for s reading b zero w v o old new r given name (all headed) (whole headed) count same named
-    (reported_as o old new r (λ it. all headed given v (patterns_by it)) (λ it. whole headed given v (patterns_by it))
-    (λ it. count given v (patterns_by it)) written counted part) by)
+-- That record for an input that is read line by line, with a heading or without one.
+pub lines_reported : (s : Sought) (v : OutputOptions) (reading : Reading) (has headed : Bool) (o old new : Option (List ℕ)) (r : Result ℕ Fault)
+    (all whole : Reading → Bool → ReadPatterns → List ℕ → List ℕ) (count : Reading → ReadPatterns → List ℕ → ℕ)
+    → is_by_lines reading ≡ true → has ≡ headed
+    → OnOk r ((by : SearchesFor s (lists_in Lines v)) → IfSome o (λ text. Appends old new (all Lines headed (patterns_by by) text)))
+    → IfOk r (λ n. (by : SearchesFor s (lists_in Lines v)) → IfSome o (λ text. n ≡ count Lines (patterns_by by) text))
+    → IfErr r (λ _. (by : SearchesFor s (lists_in Lines v)) → IfSome o (λ text. (n : ℕ) × Appends old new (take n (whole Lines headed (patterns_by by) text))))
+    → (by : SearchesFor s (lists_in reading v)) → IfSome o (λ text. IsInputReported old new r (all reading has (patterns_by by) text)
+    (whole reading has (patterns_by by) text) (count reading (patterns_by by) text))
+lines_reported s v Lines has headed o old new r all whole count e is written counted part by =
+    subst (λ (h : Bool). IfSome o (λ text. IsInputReported old new r (all Lines h (patterns_by by) text) (whole Lines h (patterns_by by) text)
+    (count Lines (patterns_by by) text))) (sym is)
+    (reported_as o old new r (λ it. all Lines headed (patterns_by it)) (λ it. whole Lines headed (patterns_by it)) (λ it. count Lines (patterns_by it))
+    written counted part by)
+lines_reported s v Records has headed o old new r all whole count e is written counted part by = cc
+lines_reported s v Text has headed o old new r all whole count e is written counted part by = cc
+lines_reported s v Events has headed o old new r all whole count e is written counted part by = cc
+lines_reported s v TextEvents has headed o old new r all whole count e is written counted part by = cc
+
+-- What isn't plain, and is read line by line, has a heading.
+pub has_heading : (lines headed : Bool) → (lines && not headed) ≡ false → lines ≡ true → headed ≡ true
+has_heading true true e is = refl
+has_heading true false e is = cc
+has_heading false headed e is = cc
+
+pub is_plainly : (lines headed : Bool) → (lines && not headed) ≡ true → (lines ≡ true) × (headed ≡ false)
+is_plainly true false e = (refl, refl)
+is_plainly true true e = cc
+is_plainly false headed e = cc
 
 -- What holds of all that is searched of an input holds by its first bytes and the others.
-pub if_searched : (P : Bool → List ℕ → Type 0) (b given : Binary) (zero made : Bool) (first : List ℕ) (rest whole : Option (List ℕ))
+if_searched : (P : Bool → List ℕ → Type 0) (b given : Binary) (zero made : Bool) (first : List ℕ) (rest whole : Option (List ℕ))
     → given ≡ b → made ≡ zero → zero ≡ has_zero first → IfSome (remaining_of given made whole) (P zero) → whole ≡ option_append (Some first) rest
     → IfSome rest (λ text. P (has_zero first) (searched_bytes b (has_zero first) (first ++ text)))
 if_searched P b given zero made first None whole same kept is h e = _
@@ -152,7 +157,7 @@ if_searched P b given zero made first (Some text) whole same kept is h e =
     (subst (λ (o : Option (List ℕ)). IfSome (remaining_of given made o) (P zero)) e h)))
 
 -- What holds by the first bytes and the others holds by all of them.
-pub if_read : (P : Bool → List ℕ → Type 0) (old mid : Option (List ℕ)) (first shown : List ℕ) → shown ≡ first → Consumes old mid first
+if_read : (P : Bool → List ℕ → Type 0) (old mid : Option (List ℕ)) (first shown : List ℕ) → shown ≡ first → Consumes old mid first
     → IfSome old (λ text. first ≡ take first_len text) → IfSome mid (λ rest. P (has_zero shown) (shown ++ rest))
     → IfSome old (λ text. P (is_binary text) text)
 if_read P None mid first shown same read is h = _
@@ -161,31 +166,48 @@ if_read P (Some text) (Some rest) first shown same read is h =
     subst (P (is_binary text)) (sym read) (subst (λ (z : Bool). P z (first ++ rest)) (ap has_zero is)
     (subst (λ (xs : List ℕ). P (has_zero xs) (xs ++ rest)) same h))
 
+-- What holds of what is searched by the first bytes and the others holds by all of them, also if there are no first bytes since every input is
+-- text.
+if_first : (P : OutputOptions → List ℕ → Type 0) (b : Binary) (w : OutputOptions) (old mid : Option (List ℕ)) (first shown : List ℕ)
+    → shown ≡ first → Consumes old mid first → IfSome old (λ text. first ≡ read_ahead b text)
+    → IfSome mid (λ rest. P (options_by b (has_zero shown) w) (searched_bytes b (has_zero shown) (shown ++ rest)))
+    → IfSome old (λ text. P (options_by b (is_binary text) w) (searched_bytes b (is_binary text) text))
+if_first P AsText w None mid first shown same read is h = _
+if_first P AsText w (Some text) None first shown same read is h = absurd read
+if_first P AsText w (Some text) (Some rest) first shown same read is h =
+    subst (P w) (sym read) (subst (λ (xs : List ℕ). P w (xs ++ rest)) same h)
+if_first P Notice w old mid first shown same read is h =
+    if_read (λ z text. P (options_by Notice z w) (searched_bytes Notice z text)) old mid first shown same read is h
+if_first P NoMatch w old mid first shown same read is h =
+    if_read (λ z text. P (options_by NoMatch z w) (searched_bytes NoMatch z text)) old mid first shown same read is h
+
+-- The report of an input is that of what is searched by its first bytes and the others.
+pub input_reported : (s : Sought) (reading : Reading) (b : Binary) (w v : OutputOptions) (old mid inner before after : Option (List ℕ))
+    (r : Result ℕ Fault) (first shown : List ℕ) (given : Binary) (zero made : Bool) (name printed : List ℕ)
+    (all whole : List ℕ → OutputOptions → ReadPatterns → List ℕ → List ℕ) (count : List ℕ → OutputOptions → ReadPatterns → List ℕ → ℕ)
+    → v ≡ options_by b zero w → printed ≡ name → given ≡ b → made ≡ zero → zero ≡ has_zero shown → shown ≡ first
+    → Consumes old mid first → IfSome old (λ text. first ≡ read_ahead b text) → inner ≡ option_append (Some shown) mid
+    → ((by : SearchesFor s (lists_in reading v)) → IfSome (remaining_of given made inner) (λ text. IsInputReported before after r
+    (all printed v (patterns_by by) text) (whole printed v (patterns_by by) text) (count printed v (patterns_by by) text)))
+    → (by : SearchesFor s (lists_in reading w)) → IfSome old (λ text. IsInputReported before after r
+    (all name (options_by b (is_binary text) w) (patterns_by by) (searched_bytes b (is_binary text) text))
+    (whole name (options_by b (is_binary text) w) (patterns_by by) (searched_bytes b (is_binary text) text))
+    (count name (options_by b (is_binary text) w) (patterns_by by) (searched_bytes b (is_binary text) text)))
+input_reported s reading b w v old mid inner before after r first shown given zero made name printed all whole count options names kept put is same read of
+    joined h by =
+    if_first (λ u text. IsInputReported before after r (all name u (patterns_by by) text) (whole name u (patterns_by by) text)
+    (count name u (patterns_by by) text)) b w old mid first shown same read of
+    (if_searched (λ z text. IsInputReported before after r (all name (options_by b z w) (patterns_by by) text)
+    (whole name (options_by b z w) (patterns_by by) text) (count name (options_by b z w) (patterns_by by) text))
+    b given zero made shown mid inner kept put is
+    (reported_for s reading b zero w v (remaining_of given made inner) before after r printed name all whole count options names h by) joined)
+
 pub if_any : (P : List ℕ → Type 0) → ((text : List ℕ) → P text) → (o : Option (List ℕ)) → IfSome o P
 if_any P h None = _
 if_any P h (Some text) = h text
 
 pub nothing_written : (a : Option (List ℕ)) (all : List ℕ) → (n : ℕ) × Appends a a (take n all)
 nothing_written a all = (0, Appends-nil a)
-
--- ---- text
-
-pub text_options : (b : Binary) → b ≡ AsText → (zero : Bool) (w : OutputOptions) → options_by b false w ≡ options_by b zero w
-text_options AsText e zero w = refl
-text_options Notice e zero w = cc
-text_options NoMatch e zero w = cc
-
-pub text_bytes : (b : Binary) → b ≡ AsText → (zero : Bool) (text : List ℕ) → text ≡ searched_bytes b zero text
-text_bytes AsText e zero text = refl
-text_bytes Notice e zero text = cc
-text_bytes NoMatch e zero text = cc
-
-pub if_text : (P : OutputOptions → List ℕ → Type 0) (b : Binary) (w : OutputOptions) → b ≡ AsText → (o : Option (List ℕ))
-    → IfSome o (λ text. P (options_by b false w) text) → IfSome o (λ text. P (options_by b (is_binary text) w) (searched_bytes b (is_binary text) text))
-if_text P b w e None h = _
-if_text P b w e (Some text) h =
-    subst (λ v. P v (searched_bytes b (is_binary text) text)) (text_options b e (is_binary text) w)
-    (subst (P (options_by b false w)) (text_bytes b e (is_binary text) text) h)
 
 -- ---- the count alone
 

@@ -22,6 +22,12 @@ binary_by word skips =
 abbrev pub first_len : ℕ
 first_len = 98304
 
+-- The bytes at the beginning of an input that are read before its search: none if every input is text.
+abbrev pub read_ahead : Binary → List ℕ → List ℕ
+read_ahead AsText text = []
+read_ahead Notice text = take first_len text
+read_ahead NoMatch text = take first_len text
+
 abbrev pub has_zero : List ℕ → Bool
 has_zero bytes = list_any (λ b. b == 0) bytes
 

@@ -11,7 +11,8 @@ use Rattle.hirgrep_main.specs.declared.options.asked.Devices.{Devices}
 use Rattle.hirgrep_main.specs.declared.options.asked.Devices.TheVariants.{ReadAll, ReadNamed, SkipAll}
 use Rattle.hirgrep_main.specs.declared.options.asked.Asked.{Asked}
 use Rattle.hirgrep_main.specs.declared.options.asked.Names.{Names}
-use Rattle.hirgrep_main.specs.Readings.{prints_json}
+use Rattle.hirgrep_main.specs.Readings.{is_by_lines, prints_json}
+use Rattle.hirgrep_main.specs.declared.inputs.reading.Reading.{Reading}
 use Rattle.hirgrep_main.specs.declared.options.asked.Names.TheVariants.{Always, Never, IfSeveral}
 
 -- ---- what is asked for
@@ -69,6 +70,10 @@ selects_none a patterns =
 -- The name of a file is printed once above its lines. Counts and names have none above them.
 abbrev pub is_headed : Bool → Print → Bool
 is_headed heading print = heading && prints_lines print
+
+-- An input is read line by line, and there is no name above its lines.
+abbrev pub is_plain : Reading → Bool → Print → Bool
+is_plain reading heading print = is_by_lines reading && not (is_headed heading print)
 
 -- Whether names are printed before lines, depending on whether several files may be searched.
 abbrev pub shows_names : Names → Bool → Bool

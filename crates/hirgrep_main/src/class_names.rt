@@ -8,7 +8,7 @@ const NAMES: [&str; 14] = [
 ];
 
 /// Where a pattern has a name of a class that is none.
-#[derive(Clone, Copy, PartialEq, Eq)]
+#[derive(Clone, Copy)]
 pub enum Misnamed {
     /// Outside of brackets.
     Outside,

@@ -2,10 +2,9 @@
 //! selected, 1 if none is, and 2 after an error, which is reported on standard error.
 #![tactic(auto)]
 
-ghost use Rattle.std.specs.Prelude.{◌≡◌, [], IfOk, codes, true};
+ghost use Rattle.std.specs.Prelude.{◌≡◌, IfOk, Some, codes, true};
 ghost use Rattle.clap.specs.Words.{found_of};
 ghost use Rattle.grep_options.specs.Options.{is_set};
-ghost use Rattle.hirgrep_main.specs.Outcomes.{no_outcome, with_failure};
 
 mod class_names;
 mod compiling;
@@ -19,151 +18,97 @@ mod searching;
 mod task;
 
 use crate::compiling::search;
-use crate::files::selecting_files::selection_of;
-use crate::options::arguments::{arguments_of, report_usage};
-use crate::options::asked::{
-    Asked, Directories, asked_of, color_of, groups_of, input_name, is_colorful, template_of,
-};
+use crate::files::selecting_files::selection_given;
+use crate::options::arguments::{matches_of, words_of};
+use crate::options::asked::{asked_of, color_of, groups_of, input_name, is_colorful, template_of};
 use crate::options::file_types::{known_types, list_of_types};
-use crate::options::patterns::{gives_patterns, lines_of, patterns_of};
+use crate::options::patterns::{Patterns, names_of_files};
 use crate::options::texts::GivenTexts;
-use crate::options::type_changes::{changes_types, types_changed};
+use crate::options::type_changes::types_changed;
 use crate::results::messages::{report_error, report_output};
-use crate::results::outcome::Outcome;
+use crate::results::stop::Stop;
 use crate::searching::Files;
 use clap::ArgMatches;
-use grep_options::{command, is_set, with_numbers};
+use grep_options::is_set;
 use std::alloc::AllocError;
 use std::env;
 use std::io::Write;
 use std::process::ExitCode;
 use std::rt::Runtime;
 
-/// Changes to the folders that are named, each relative to the one before. Returns false if that fails, after reporting the error.
-fn enter(rt: &HostRuntime, folders: &[&str]) -> bool {
-    for folder in folders {
-        if let Err(e) = env::set_current_dir(rt, *folder) {
-            report_error(rt, folder, &e);
-            return false;
+/// The list of types of files, as options change them. Returns none after reporting a definition that can't be read.
+fn types_listed(rt: &HostRuntime, matches: &ArgMatches<'_>) -> Result<Option<String>, AllocError> {
+    match types_changed(rt, known_types(), matches)? {
+        Some(types) => {
+            let text = list_of_types(rt.alloc(), &types);
+            drop(types);
+            Ok(Some(text?))
         }
-    }
-    true
-}
-
-/// Searches for the patterns that options give.
-fn run_given(
-    rt: &HostRuntime,
-    asked: &Asked,
-    matches: &ArgMatches<'_>,
-    files: Files<'_>,
-) -> Result<Outcome, AllocError> {
-    let mut pattern_files = Vec::new(rt.alloc());
-    match patterns_of(rt, asked, matches, &mut pattern_files)? {
-        Some(patterns) => {
-            let pattern_files = pattern_files.as_slice();
-            let files = Files {
-                pattern_files,
-                ..files
-            };
-            search(rt, asked, patterns.as_slice(), files)
-        }
-        None => Ok(Outcome::failure()),
+        None => Ok(None),
     }
 }
 
-/// Searches for the patterns in the first operand, one on each line. The other operands are files.
-fn run_words(rt: &HostRuntime, asked: &Asked, words: Files<'_>) -> Result<Outcome, AllocError>
-    ensures { words.entry.names.now ≡ [] → IfOk result (λ o. o ≡ with_failure no_outcome) }
-{
-    match words.names.split_first() {
-        Some((pattern, names)) => {
-            let patterns = lines_of(rt.alloc(), pattern)?;
-            let files = Files { names, ..words };
-            search(rt, asked, patterns.as_slice(), files)
-        }
-        None => {
-            let _ = eprintln!(rt; "hirgrep: no pattern; see hirgrep --help");
-            Ok(Outcome::failure())
+/// Prints a text, and returns the exit status.
+fn print_text(rt: &HostRuntime, text: &str) -> u8 {
+    match rt.stdout().write_all(text.as_bytes()) {
+        Ok(()) => 0,
+        Err(e) => {
+            report_output(rt, &e);
+            2
         }
     }
-}
-
-/// Prints the names of the files that would be searched, in folders too, unless these are skipped.
-fn run_list(rt: &HostRuntime, asked: &Asked, files: Files<'_>) -> Result<Outcome, AllocError> {
-    let directories = if asked.directories == Directories::Skip {
-        Directories::Skip
-    } else {
-        Directories::Recurse
-    };
-    let asked = Asked {
-        directories,
-        ..*asked
-    };
-    search(rt, &asked, &[], files)
-}
-
-/// Runs the search that the options ask for, of the files that they choose, in the folder that is named, if there is one.
-fn run_asked(
-    rt: &HostRuntime,
-    asked: &Asked,
-    matches: &ArgMatches<'_>,
-) -> Result<Outcome, AllocError> {
-    if !enter(rt, matches.get_strs("directory").unwrap_or(&[])) {
-        return Ok(Outcome::failure());
-    }
-    let selection = if changes_types(matches) {
-        let Some(types) = types_changed(rt, known_types(), matches)? else {
-            return Ok(Outcome::failure());
-        };
-        selection_of(rt, asked, &types, matches)?
-    } else {
-        selection_of(rt, asked, known_types(), matches)?
-    };
-    let Some(selection) = selection else {
-        return Ok(Outcome::failure());
-    };
-    let words = Files {
-        names: matches.get_strs("words").unwrap_or(&[]),
-        input_name: input_name(matches),
-        selection: &selection,
-        pattern_files: &[],
-    };
-    if selection.lists {
-        return run_list(rt, asked, words);
-    }
-    if gives_patterns(matches) {
-        return run_given(rt, asked, matches, words);
-    }
-    run_words(rt, asked, words)
 }
 
 /// Prints the types of files, and returns the exit status.
 fn print_types(rt: &HostRuntime, matches: &ArgMatches<'_>) -> Result<u8, AllocError> {
-    let Some(types) = types_changed(rt, known_types(), matches)? else {
-        return Ok(2);
-    };
-    let text = list_of_types(rt.alloc(), &types)?;
-    match rt.stdout().write_all(text.as_bytes()) {
-        Ok(()) => Ok(0),
-        Err(e) => {
-            report_output(rt, &e);
-            Ok(2)
+    match types_listed(rt, matches)? {
+        Some(text) => {
+            let status = print_text(rt, text.as_str());
+            drop(text);
+            Ok(status)
         }
+        None => Ok(2),
     }
 }
 
-/// Runs what the command line asks for, and returns the exit status. Basic regular expressions are an error.
-fn run_matches(rt: &HostRuntime, matches: &ArgMatches<'_>) -> Result<u8, AllocError>
-    ensures { is_set (found_of matches.now) (codes "basic-regexp") ≡ true → IfOk result (λ status. status ≡ 2) }
+/// Does what options ask for instead of a search, and returns the exit status: prints the types of files, or reports that basic regular
+/// expressions aren't supported. Returns none if files are to be searched.
+fn status_without_search(
+    rt: &HostRuntime,
+    matches: &ArgMatches<'_>,
+) -> Result<Option<u8>, AllocError>
+    ensures { is_set (found_of matches.now) (codes "basic-regexp") ≡ true → IfOk result (λ status. status ≡ Some 2) }
 {
     if is_set(matches, "basic-regexp") {
         let _ = eprintln!(rt;
             "hirgrep: -G isn't supported: write \\+ \\? \\| \\( \\) \\{{ \\}} without a backslash, and + ? | ( ) {{ }} with one"
         );
-        return Ok(2);
+        return Ok(Some(2));
     }
     if is_set(matches, "type-list") {
-        return print_types(rt, matches);
+        let status = print_types(rt, matches)?;
+        return Ok(Some(status));
+    }
+    Ok(None)
+}
+
+/// Changes to the folders that are named, each relative to the one before.
+fn enter(rt: &HostRuntime, folders: &[&str]) -> Result<(), Stop> {
+    for folder in folders {
+        if let Err(e) = env::set_current_dir(rt, *folder) {
+            report_error(rt, folder, &e);
+            return Err(Stop::With(2));
+        }
+    }
+    Ok(())
+}
+
+/// Searches for what the options ask for, and returns the exit status. Basic regular expressions are an error.
+fn search_asked(rt: &HostRuntime, matches: &ArgMatches<'_>) -> Result<u8, Stop>
+    ensures { is_set (found_of matches.now) (codes "basic-regexp") ≡ true → IfOk result (λ status. status ≡ 2) }
+{
+    if let Some(status) = status_without_search(rt, matches)? {
+        return Ok(status);
     }
     let is_colorful = is_colorful(rt);
     let given = GivenTexts::new(rt, matches, color_of(matches, is_colorful))?;
@@ -175,32 +120,32 @@ fn run_matches(rt: &HostRuntime, matches: &ArgMatches<'_>) -> Result<u8, AllocEr
         groups_of(matches),
         template_of(matches),
     );
-    let outcome = run_asked(rt, &asked, matches)?;
+    enter(rt, matches.get_strs("directory").unwrap_or(&[]))?;
+    let selection = selection_given(rt, &asked, matches)?;
+    let patterns = Patterns::given(rt, &asked, matches, selection.lists)?;
+    let files = Files {
+        names: names_of_files(matches, selection.lists),
+        input_name: input_name(matches),
+        selection: &selection,
+    };
+    let searched = search(rt, &asked, &patterns, files);
+    drop(patterns);
+    drop(selection);
+    let outcome = searched?;
     Ok(outcome.status(&asked))
 }
 
-fn run(rt: &HostRuntime) -> Result<u8, AllocError> {
-    let alloc = rt.alloc();
-    let Some(arguments) = arguments_of(rt)? else {
-        return Ok(2);
-    };
-    let Some(words) = with_numbers(alloc, arguments.as_slice())? else {
-        let _ = eprintln!(rt; "hirgrep: an argument isn't UTF-8");
-        return Ok(2);
-    };
-    let command = command(alloc)?;
-    match command.try_get_matches_from(words.as_slice()) {
-        Ok(matches) => run_matches(rt, &matches),
-        Err(error) => report_usage(rt, &error),
-    }
-}
-
 fn main(rt: HostRuntime) -> ExitCode {
-    match run(&rt) {
+    let words = match words_of(&rt) {
+        Ok(words) => words,
+        Err(stop) => return stop.status(&rt),
+    };
+    let matches = match matches_of(&rt, words.as_slice()) {
+        Ok(matches) => matches,
+        Err(stop) => return stop.status(&rt),
+    };
+    match search_asked(&rt, &matches) {
         Ok(status) => ExitCode::from(status),
-        Err(_) => {
-            let _ = eprintln!(rt; "hirgrep: out of memory");
-            ExitCode::from(2)
-        }
+        Err(stop) => stop.status(&rt),
     }
 }

@@ -3,4 +3,5 @@ pub(crate) mod messages;
 pub(crate) mod outcome;
 pub(crate) mod output;
 pub(crate) mod shown;
+pub(crate) mod stop;
 pub(crate) mod totals;

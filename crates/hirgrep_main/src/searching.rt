@@ -1,6 +1,7 @@
 //! Searches files, one after the other.
-ghost use Rattle.std.specs.Prelude.{◌≡◌, true, false, None, Result, Ok, IfErr, IfOk, OnOk, codes};
-ghost use Rattle.hirgrep_main.specs.Decisions.{reads_found, reads_named};
+ghost use Rattle.std.specs.Prelude.{◌≡◌, [], true, false, None, Result, Ok, IfErr, IfOk, OnOk, codes, map, string_bytes};
+ghost use Rattle.hirgrep_main.specs.Decisions.{reads_found, reads_named, selects_none};
+ghost use Rattle.hirgrep_main.specs.Readings.{prints_summary};
 ghost use Rattle.hirgrep_main.specs.declared.options.asked.Directories.TheVariants.{Reject, Skip};
 ghost use Rattle.hirgrep_main.specs.declared.searching.Named.TheVariants.{Input, File, Folder, Device};
 ghost use Rattle.hirgrep_main.specs.declared.files.walking.Kind.TheVariants.{Link, Device as FoundDevice, File as FoundFile, Folder as FoundFolder};
@@ -14,8 +15,7 @@ use crate::files::selecting_files::Selection;
 use crate::files::walking::{Kind, kind_of, output_file, push_folder, push_found};
 use crate::inputs::reading::prints_json;
 use crate::options::asked::{Asked, Directories};
-use crate::options::decisions::{is_named, reads_found, reads_named};
-use crate::options::patterns::PatternFile;
+use crate::options::decisions::{is_named, prints_summary, reads_found, reads_named, selects_none};
 use crate::results::outcome::Outcome;
 use crate::results::shown::hides_controls;
 use crate::task::{Task, shown_name};
@@ -34,8 +34,6 @@ pub struct Files<'a> {
     pub input_name: &'a str,
     /// Which files are searched.
     pub selection: &'a Selection,
-    /// The files of which patterns were read.
-    pub pattern_files: &'a [PatternFile<'a>],
 }
 
 /// Searches a device, a pipe or a socket, if it is to be read.
@@ -234,7 +232,7 @@ fn search_folder(
 }
 
 /// What an argument names.
-#[derive(Clone, Copy, PartialEq, Eq)]
+#[derive(Clone, Copy)]
 enum Named {
     Input,
     File,
@@ -378,43 +376,93 @@ fn task_of<'a>(rt: &HostRuntime, asked: &'a Asked<'a>, files: Files<'a>) -> Task
     }
 }
 
-/// What is searched if no argument names anything.
-fn default_path(directories: Directories) -> &'static str {
-    if directories == Directories::Recurse {
-        "."
-    } else {
-        "-"
+/// What is asked for. If the names of files are printed, folders are searched too, unless these are skipped.
+fn with_folders<'a>(asked: &Asked<'a>, lists: bool) -> Asked<'a> {
+    if !lists || asked.directories == Directories::Skip {
+        return *asked;
+    }
+    Asked {
+        directories: Directories::Recurse,
+        ..*asked
     }
 }
 
-/// Searches what arguments name. If they name nothing, searches the current folder or standard input. Names are printed if several files may
-/// be searched, or if options ask for them.
+/// What is searched if no argument names anything.
+fn default_paths<'a>(directories: Directories) -> &'a [&'a str] {
+    if directories == Directories::Recurse {
+        &["."]
+    } else {
+        &["-"]
+    }
+}
+
+/// The paths of what is searched: what arguments name, or the current folder or standard input if they name nothing. There is none if no line
+/// can be selected.
+fn paths_of<'a>(
+    asked: &Asked,
+    directories: Directories,
+    patterns: &[String],
+    files: Files<'a>,
+) -> &'a [&'a str]
+    ensures { selects_none asked.now (map string_bytes patterns.now) ≡ true → files.entry.selection.now.lists ≡ false → result.now ≡ [] }
+{
+    if !files.selection.lists && selects_none(asked, patterns) {
+        return &[];
+    }
+    if files.names.is_empty() {
+        return default_paths(directories);
+    }
+    files.names
+}
+
+/// Prints what is printed after all files: the sum of what was searched, and statistics.
+fn conclude(
+    rt: &HostRuntime,
+    finder: &Finder<'_>,
+    asked: &Asked,
+    outcome: &mut Outcome,
+) -> Result<(), AllocError>
+    ensures none { prints_summary asked.now ≡ false → outcome.new ≡ outcome.old }
+    ensures continues { Continues outcome.old outcome.new }
+{
+    if prints_summary(asked) {
+        outcome.write_summary(rt)?;
+    }
+    if asked.stats {
+        outcome.report_stats(rt, finder);
+    }
+    Ok(())
+}
+
+/// Searches what arguments name, and prints what is printed after all files. Names are printed if several files may be searched, or if options
+/// ask for them. No file is opened if none of their lines can be selected.
 pub fn search_files(
     rt: &HostRuntime,
     finder: &mut Finder<'_>,
     asked: &Asked,
+    patterns: &[String],
     outcome: &mut Outcome,
     files: Files<'_>,
 ) -> Result<(), AllocError>
-    ensures { Continues outcome.old outcome.new }
+    ensures none { selects_none asked.now (map string_bytes patterns.now) ≡ true → files.entry.selection.now.lists ≡ false
+        → prints_summary asked.now ≡ false → outcome.new ≡ outcome.old }
+    ensures continues { Continues outcome.old outcome.new }
 {
-    let task = task_of(rt, asked, files);
-    if files.names.is_empty() {
-        let path = default_path(asked.directories);
-        let named = named_at(rt, path);
-        let with_name = is_named(asked, may_be_several(asked.directories, &named));
-        let task = Task { with_name, ..task };
-        return search_as(rt, finder, task, outcome, path, named);
+    let searched = with_folders(asked, files.selection.lists);
+    let paths = paths_of(asked, searched.directories, patterns, files);
+    if paths.is_empty() {
+        return conclude(rt, finder, asked, outcome);
     }
-    for path in files.names {
+    let task = task_of(rt, &searched, files);
+    for path in paths {
         let named = named_at(rt, path);
-        let several = files.names.len() > 1 || may_be_several(asked.directories, &named);
-        let with_name = is_named(asked, several);
+        let several = paths.len() > 1 || may_be_several(searched.directories, &named);
+        let with_name = is_named(&searched, several);
         let task = Task { with_name, ..task };
         search_as(rt, finder, task, outcome, path, named)?;
         if outcome.ended {
             break;
         }
     }
-    Ok(())
+    conclude(rt, finder, asked, outcome)
 }

@@ -35,52 +35,6 @@ use std::io::{Read, Stdin, Write};
 use std::rt::Runtime;
 use std::{fs, io};
 
-/// Searches the input of a reader under this name, and records the outcome.
-fn search_reader<R: Read + Drop, W: Write + Drop>(
-    rt: &HostRuntime,
-    finder: &mut Finder<'_>,
-    task: Task<'_>,
-    outcome: &mut Outcome,
-    name: &str,
-    reader: R,
-    writer: W,
-)
-    ensures same { finder.new ≡ finder.old }
-    ensures came { (reported : Result ℕ TheFault) × (bytes : ℕ) × (wrote : Bool) × (totals : TheStats)
-        × (outcome.new ≡ after_search task.entry.asked.now.what.print (with_totals outcome.old totals) bytes wrote reported)
-        × IfOk reported (λ n. (by : SearchesFor finder.old (lists_matches task.entry.asked.now)) →
-        IfSome (R.remaining reader) (λ text. n ≡ count_of task.entry (patterns_by by) (printed_name task.entry.hides_controls name.now) text)) }
-    ensures counted { outcome.new.files ≡ counted outcome.old.files 1 }
-    ensures continues { Continues outcome.old outcome.new }
-{
-    let mut reader = Counting::new(reader);
-    let mut writer = Headed::new(rt.alloc(), Output::new(writer));
-    let mut totals = outcome.totals;
-    let reported = report_one(
-        rt,
-        finder,
-        task,
-        *outcome,
-        name,
-        &mut reader,
-        &mut writer,
-        &mut totals,
-    );
-    outcome.totals = totals;
-    outcome.keep_search(
-        rt,
-        task.asked,
-        name,
-        reader.count(),
-        writer.writer.wrote(),
-        reported,
-        Causes {
-            read: reader.code(),
-            write: writer.writer.code(),
-        },
-    );
-}
-
 /// Whether the output would become part of the input. This is reported and recorded as a failure.
 fn is_refused_output(
     rt: &HostRuntime,
@@ -99,8 +53,9 @@ fn is_refused_output(
     is_refused
 }
 
-/// Searches what was opened, with numbers at least this wide. Or records that it can't be opened, or that memory ran out.
-fn search_aligned<R: Read + Drop>(
+/// Searches what was opened under this name, with numbers at least this wide, and records the outcome. Or records that it can't be opened, or
+/// that memory ran out.
+fn search_reader<R: Read + Drop>(
     rt: &HostRuntime,
     finder: &mut Finder<'_>,
     task: Task<'_>,
@@ -109,9 +64,15 @@ fn search_aligned<R: Read + Drop>(
     width: Result<usize, AllocError>,
     opened: io::Result<R>,
 )
+    ensures same { finder.new ≡ finder.old }
     ensures unknown { IfErr width (λ _. outcome.new ≡ with_failure outcome.old) }
     ensures unread { IfErr opened (λ _. outcome.new ≡ with_failure outcome.old) }
-    ensures read { IfOk width (λ _. IfOk opened (λ _. outcome.new.files ≡ counted outcome.old.files 1)) }
+    ensures came { IfOk width (λ w. IfOk opened (λ reader.
+        (reported : Result ℕ TheFault) × (bytes : ℕ) × (wrote : Bool) × (totals : TheStats)
+        × (outcome.new ≡ after_search task.entry.asked.now.what.print (with_totals outcome.old totals) bytes wrote reported)
+        × IfOk reported (λ n. (by : SearchesFor finder.old (lists_matches task.entry.asked.now)) → IfSome (R.remaining reader)
+        (λ text. n ≡ count_of (record task.entry { width = w }) (patterns_by by) (printed_name task.entry.hides_controls name.now) text)))) }
+    ensures counted { IfOk width (λ _. IfOk opened (λ _. outcome.new.files ≡ counted outcome.old.files 1)) }
     ensures tried { Tries outcome.old outcome.new }
     ensures continues { Continues outcome.old outcome.new }
 {
@@ -119,11 +80,31 @@ fn search_aligned<R: Read + Drop>(
         outcome.fail_with(rt, task.asked, name, "out of memory");
         return;
     };
+    let reader = match opened {
+        Ok(reader) => reader,
+        Err(e) => return outcome.fail(rt, task.asked, name, e),
+    };
     let task = Task { width, ..task };
-    match opened {
-        Ok(reader) => search_reader(rt, finder, task, outcome, name, reader, rt.stdout()),
-        Err(e) => outcome.fail(rt, task.asked, name, e),
-    }
+    let mut input = Counting::new(reader);
+    let mut writer = Headed::new(rt.alloc(), Output::new(rt.stdout()));
+    let mut totals = outcome.totals;
+    let reported = report_one(
+        rt,
+        finder,
+        task,
+        *outcome,
+        name,
+        &mut input,
+        &mut writer,
+        &mut totals,
+    );
+    outcome.totals = totals;
+    let causes = Causes {
+        read: input.code(),
+        write: writer.writer.code(),
+    };
+    let wrote = writer.writer.wrote();
+    outcome.keep_search(rt, task.asked, name, input.count(), wrote, reported, causes);
 }
 
 /// How many lines are read after the last selected one: those that are printed as its context.
@@ -192,7 +173,7 @@ pub fn search_input(
         asked: &asked,
         ..task
     };
-    search_aligned(rt, finder, task, outcome, name, width, Ok(&mut reader));
+    search_reader(rt, finder, task, outcome, name, width, Ok(&mut reader));
     reader.leave(after);
 }
 
@@ -234,5 +215,5 @@ pub fn search_file(
         return;
     }
     let width = width_at(rt, &task.asked.what, path);
-    search_aligned(rt, finder, task, outcome, name, width, fs::open(rt, path));
+    search_reader(rt, finder, task, outcome, name, width, fs::open(rt, path));
 }

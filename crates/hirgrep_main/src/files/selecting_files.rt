@@ -17,9 +17,11 @@ ghost use Rattle.hirgrep_main.specs.FileTypes.{is_type, of_type, rows_of, type_r
 use crate::files::path_names::{begins_with_dot, is_name};
 use crate::files::rule_files::{push_file, push_ignore_files, push_rule};
 use crate::options::asked::Asked;
-use crate::options::file_types::{is_type, push_type};
+use crate::options::file_types::{is_type, known_types, push_type};
 use crate::options::sizes::{gives_size, is_too_large, size_given};
+use crate::options::type_changes::{changes_types, types_changed};
 use crate::results::shown::Shown;
+use crate::results::stop::Stop;
 use clap::ArgMatches;
 use globs::{
     Fault, FaultKind, Rule, any_selects, chars_of, chooses, decides, file_name, skips, without_dot,
@@ -29,7 +31,7 @@ use std::alloc::{AllocError, Global};
 use std::rt::Runtime;
 
 /// Which ignore files of folders are read.
-#[derive(Clone, Copy, PartialEq, Eq)]
+#[derive(Clone, Copy)]
 pub struct Ignoring {
     pub reads: bool,
     /// `.ignore` and `.rgignore`.
@@ -642,7 +644,7 @@ fn is_ignoring(known: Option<bool>) -> bool
 }
 
 /// What the options choose. If an option has a fault or names a file that can't be read, reports it and returns none.
-pub fn selection_of(
+fn selection_of(
     rt: &HostRuntime,
     asked: &Asked,
     types: &[(&str, &str)],
@@ -663,4 +665,25 @@ pub fn selection_of(
         return Ok(None);
     }
     Ok(Some(selection))
+}
+
+/// What the options choose, by the types of files as options change them. If an option has a fault or names a file that can't be read,
+/// reports it.
+pub fn selection_given(
+    rt: &HostRuntime,
+    asked: &Asked,
+    matches: &ArgMatches<'_>,
+) -> Result<Selection, Stop> {
+    let selection = if changes_types(matches) {
+        match types_changed(rt, known_types(), matches)? {
+            Some(types) => selection_of(rt, asked, &types, matches)?,
+            None => None,
+        }
+    } else {
+        selection_of(rt, asked, known_types(), matches)?
+    };
+    match selection {
+        Some(selection) => Ok(selection),
+        None => Err(Stop::With(2)),
+    }
 }

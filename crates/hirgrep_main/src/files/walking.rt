@@ -17,7 +17,7 @@ use std::rt::{Files, Runtime};
 use std::{fs, io, str};
 
 /// What is at a path.
-#[derive(Clone, Copy, PartialEq, Eq)]
+#[derive(Clone, Copy)]
 pub enum Kind {
     File,
     Folder,

@@ -1,11 +1,12 @@
 //! The first bytes of an input, which decide whether it is binary, and what is searched of a binary one.
 ghost use Rattle.std.specs.Prelude.{◌≡◌, ◌<◌, ◌≤◌, ◌+◌, IfOk, IfSome, drop, length, map, take};
 ghost use Rattle.std.specs.Io.KnownBytes.{Consumes, IsAtEnd};
-ghost use Rattle.hirgrep_main.specs.Binaries.{first_len, has_zero, with_feeds, zero_as_feed};
+ghost use Rattle.hirgrep_main.specs.Binaries.{first_len, has_zero, read_ahead, with_feeds, zero_as_feed};
 ghost use Rattle.std.specs.Io.{ReadsAtMost};
 ghost use Rattle.std.specs.Io.KnownBytes.{ReadConsumes};
 
 use crate::inputs::binary::Binary;
+use line_search::Fault;
 use std::alloc::{AllocError, Global};
 use std::io;
 use std::io::Read;
@@ -56,7 +57,7 @@ fn buffer_of(alloc: Global, len: usize) -> Result<Vec<u8>, AllocError>
 }
 
 /// The first bytes of a reader: as many as decide whether an input is binary, or all if there are fewer.
-pub fn read_first<R: Read>(alloc: Global, reader: &mut R) -> io::Result<Vec<u8>>
+fn read_first<R: Read>(alloc: Global, reader: &mut R) -> io::Result<Vec<u8>>
     ensures read { IfOk result (λ first. Consumes (R.remaining reader.old) (R.remaining reader.new) first.items) }
     ensures first { IfOk result (λ first. IfSome (R.remaining reader.old) (λ text. first.items ≡ take first_len text)) }
 {
@@ -64,6 +65,20 @@ pub fn read_first<R: Read>(alloc: Global, reader: &mut R) -> io::Result<Vec<u8>>
     let n = fill(reader, &mut first)?;
     first.truncate(n);
     Ok(first)
+}
+
+/// The first bytes of a reader, if they decide what is printed. If every input is text, nothing is read.
+pub fn read_ahead<R: Read>(alloc: Global, binary: Binary, reader: &mut R) -> Result<Vec<u8>, Fault>
+    ensures read { IfOk result (λ first. Consumes (R.remaining reader.old) (R.remaining reader.new) first.items) }
+    ensures first { IfOk result (λ first. IfSome (R.remaining reader.old) (λ text. first.items ≡ read_ahead binary text)) }
+{
+    if binary == Binary::AsText {
+        return Ok(Vec::new(alloc));
+    }
+    match read_first(alloc, reader) {
+        Ok(first) => Ok(first),
+        Err(e) => Err(Fault::Read(e.kind())),
+    }
 }
 
 /// Whether a byte is zero.

@@ -1,111 +1,42 @@
 //! The report of one input.
-ghost use Rattle.std.specs.Prelude.{◌≡◌, ◌++◌, IfSome};
+ghost use Rattle.std.specs.Prelude.{◌≡◌, IfSome};
 ghost use Rattle.hirgrep_main.specs.Readings.{lists_matches};
 ghost use Rattle.line_search.specs.Searchers.{SearchesFor};
-ghost use Rattle.hirgrep_main.specs.Binaries.{has_zero, searched_bytes};
 ghost use Rattle.hirgrep_main.specs.Texts.{printed_name};
-ghost use Rattle.hirgrep_main.specs.Tasks.{IsInputReported, count_for, count_of, patterns_by, report_for, report_in, whole_report_for, whole_report_in};
+ghost use Rattle.hirgrep_main.specs.Tasks.{IsInputReported, count_of, patterns_by, report_in, whole_report_in};
 
-use crate::inputs::binary::{Binary, is_noticed};
-use crate::inputs::first_bytes::{Searched, has_zero, read_first};
-use crate::inputs::reporting::report_reader;
+use crate::inputs::binary::is_noticed;
+use crate::inputs::first_bytes::{Searched, has_zero, read_ahead};
+use crate::inputs::reporting::{is_plain, options_for, report_otherwise};
 use crate::results::messages::report_reason;
 use crate::results::outcome::Outcome;
 use crate::results::shown::printed_name;
 use crate::task::Task;
-use grep_core::Headed;
+use grep_core::{Headed, report_input};
 use json_events::Stats;
 use line_search::{Fault, Finder};
 use std::io::{Read, Write};
 use std::rt::Runtime;
 
-/// Reports that a binary input has a selected line, if that is printed instead of its lines.
-fn report_notice(
+/// Returns what a search returned. Reports that a binary input has a selected line, if that is printed instead of its lines.
+fn noticed(
     rt: &HostRuntime,
     task: Task<'_>,
     name: &str,
     zero: bool,
     reported: Result<u64, Fault>,
-) {
+) -> Result<u64, Fault>
+    ensures { result ≡ reported }
+{
     if is_noticed(task.asked.binary, task.asked.what.print, zero, reported) {
         report_reason(rt, name, "binary file matches");
     }
-}
-
-/// Searches an input of which these are the first bytes, and a reader has the others.
-fn report_first<R: Read, W: Write>(
-    rt: &HostRuntime,
-    finder: &mut Finder<'_>,
-    task: Task<'_>,
-    outcome: Outcome,
-    name: &str,
-    first: &[u8],
-    reader: &mut R,
-    writer: &mut Headed<W>,
-    totals: &mut Stats,
-) -> Result<u64, Fault>
-    ensures same { finder.new ≡ finder.old }
-    ensures reported { (by : SearchesFor finder.old (lists_matches task.entry.asked.now)) → IfSome (R.remaining reader.old) (λ text.
-        IsInputReported (W.contents writer.old.writer) (W.contents writer.new.writer) result
-        (report_for task.entry.asked.now.reading task.entry (has_zero first.now) outcome (patterns_by by) name.now
-        (searched_bytes task.entry.asked.now.binary (has_zero first.now) (first.now ++ text)))
-        (whole_report_for task.entry.asked.now.reading task.entry (has_zero first.now) outcome (patterns_by by) name.now
-        (searched_bytes task.entry.asked.now.binary (has_zero first.now) (first.now ++ text)))
-        (count_for task.entry.asked.now.reading task.entry (has_zero first.now) (patterns_by by) name.now
-        (searched_bytes task.entry.asked.now.binary (has_zero first.now) (first.now ++ text)))) }
-{
-    let zero = has_zero(first);
-    let mut whole = Searched::new(first.chain(reader), task.asked.binary, zero);
-    let reported = report_reader(
-        rt.alloc(),
-        finder,
-        task,
-        zero,
-        outcome,
-        name,
-        &mut whole,
-        writer,
-        totals,
-    );
-    report_notice(rt, task, name, zero, reported);
     reported
 }
 
-/// Searches the input of a reader, of which the first bytes decide what is printed.
-fn report_binary<R: Read, W: Write>(
-    rt: &HostRuntime,
-    finder: &mut Finder<'_>,
-    task: Task<'_>,
-    outcome: Outcome,
-    name: &str,
-    reader: &mut R,
-    writer: &mut Headed<W>,
-    totals: &mut Stats,
-) -> Result<u64, Fault>
-    ensures same { finder.new ≡ finder.old }
-    ensures reported { (by : SearchesFor finder.old (lists_matches task.entry.asked.now)) → IfSome (R.remaining reader.old) (λ text.
-        IsInputReported (W.contents writer.old.writer) (W.contents writer.new.writer) result
-        (report_in task.entry outcome (patterns_by by) name.now text) (whole_report_in task.entry outcome (patterns_by by) name.now text)
-        (count_of task.entry (patterns_by by) name.now text)) }
-{
-    match read_first(rt.alloc(), reader) {
-        Ok(first) => report_first(
-            rt,
-            finder,
-            task,
-            outcome,
-            name,
-            first.as_slice(),
-            reader,
-            writer,
-            totals,
-        ),
-        Err(e) => Err(Fault::Read(e.kind())),
-    }
-}
-
-/// Searches the input of a reader, and writes the output for it under this name, whose control characters may be hidden. If inputs with a
-/// zero byte aren't text, the first bytes decide what is printed.
+/// Searches the input of a reader, and writes the output for it under this name, whose control characters may be hidden: the report that was
+/// asked for. If inputs with a zero byte aren't text, the first bytes decide what is printed. `outcome` is that of earlier inputs. What was
+/// searched is added to `totals`, if it is printed as JSON.
 pub fn report_one<R: Read, W: Write>(
     rt: &HostRuntime,
     finder: &mut Finder<'_>,
@@ -123,22 +54,37 @@ pub fn report_one<R: Read, W: Write>(
         (whole_report_in task.entry outcome (patterns_by by) (printed_name task.entry.hides_controls name.now) text)
         (count_of task.entry (patterns_by by) (printed_name task.entry.hides_controls name.now) text)) }
 {
-    let Ok(printed) = printed_name(rt.alloc(), task.hides_controls, name) else {
+    let alloc = rt.alloc();
+    let Ok(printed) = printed_name(alloc, task.hides_controls, name) else {
         return Err(Fault::NoMemory);
     };
+    let ahead = match read_ahead(alloc, task.asked.binary, reader) {
+        Ok(ahead) => ahead,
+        Err(e) => return Err(e),
+    };
+    let first = ahead.as_slice();
+    let zero = has_zero(first);
+    let mut input = Searched::new(first.chain(reader), task.asked.binary, zero);
+    let what = options_for(task, zero);
     let name = printed.as_str();
-    match task.asked.binary {
-        Binary::AsText => report_reader(
-            rt.alloc(),
-            finder,
-            task,
-            false,
-            outcome,
-            name,
-            reader,
-            writer,
-            totals,
-        ),
-        _ => report_binary(rt, finder, task, outcome, name, reader, writer, totals),
+    let bytes = name.as_bytes();
+    if !is_plain(task.asked, what.print) {
+        let reported = report_otherwise(
+            alloc, finder, task, &what, outcome, bytes, &mut input, writer, totals,
+        );
+        return noticed(rt, task, name, zero, reported);
     }
+    let known = outcome.known();
+    let out = &mut writer.writer;
+    let reported = report_input(
+        alloc,
+        finder,
+        &what,
+        bytes,
+        task.with_name,
+        known,
+        &mut input,
+        out,
+    );
+    noticed(rt, task, name, zero, reported)
 }

@@ -14,7 +14,7 @@ use std::io::{ErrorKind, Read};
 const GIB: u64 = 0x4000_0000;
 
 /// How an input is read.
-#[derive(Clone, Copy, PartialEq, Eq)]
+#[derive(Clone, Copy)]
 pub enum Reading {
     /// Line by line.
     Lines,

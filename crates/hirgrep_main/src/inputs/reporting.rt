@@ -1,16 +1,17 @@
 //! What is printed for one input, with the options that depend on it.
-ghost use Rattle.std.specs.Prelude.{◌≡◌, IfSome};
+ghost use Rattle.std.specs.Prelude.{◌≡◌, false, IfSome};
 ghost use Rattle.line_search.specs.Searchers.{SearchesFor};
-ghost use Rattle.hirgrep_main.specs.Decisions.{is_headed};
-ghost use Rattle.hirgrep_main.specs.Readings.{lists_matches};
-ghost use Rattle.hirgrep_main.specs.Tasks.{IsInputReported, count_for, patterns_by, options_for, options_in, report_for, whole_report_for};
+ghost use Rattle.hirgrep_main.specs.Decisions.{is_headed, is_plain};
+ghost use Rattle.hirgrep_main.specs.Readings.{lists_in};
+ghost use Rattle.hirgrep_main.specs.Tasks.{IsInputReported, body_count, options_for, options_in, patterns_by, report_by, whole_report_by};
 
 use crate::inputs::binary::{options_by, prints_lines};
 use crate::inputs::reading::is_by_lines;
 use crate::inputs::whole_report::report_whole;
+use crate::options::asked::Asked;
 use crate::results::outcome::Outcome;
 use crate::task::Task;
-use grep_core::{Headed, OutputOptions, Print, report_headed, report_input};
+use grep_core::{Headed, OutputOptions, Print, report_headed};
 use json_events::Stats;
 use line_search::{Fault, Finder};
 use std::alloc::Global;
@@ -34,59 +35,50 @@ fn options_in<'a>(task: Task<'a>) -> OutputOptions<'a>
 }
 
 /// The output options for the input that is searched, given whether it is binary.
-fn options_for<'a>(task: Task<'a>, zero: bool) -> OutputOptions<'a>
+pub fn options_for<'a>(task: Task<'a>, zero: bool) -> OutputOptions<'a>
     ensures { result ≡ options_for task.entry zero }
 {
     options_by(task.asked.binary, zero, options_in(task))
 }
 
-/// Searches the input of a reader, and writes the output for it: the report that was asked for, under this name. `zero` says whether the
-/// input is binary, and `outcome` is that of earlier inputs. What was searched is added to `totals`, if it is printed as JSON.
-pub fn report_reader<R: Read, W: Write>(
+/// Whether the report of an input that is read line by line has no heading.
+pub fn is_plain(asked: &Asked, print: Print) -> bool
+    ensures { result ≡ is_plain asked.now.reading asked.now.heading print }
+{
+    is_by_lines(asked.reading) && !is_headed(asked.heading, print)
+}
+
+/// Searches the input of a reader that is read as a whole, or whose report has a heading, and writes its report with these options, under
+/// this name. `outcome` is that of earlier inputs. What was searched is added to `totals`, if it is printed as JSON.
+pub fn report_otherwise<R: Read, W: Write>(
     alloc: Global,
     finder: &mut Finder<'_>,
     task: Task<'_>,
-    zero: bool,
+    what: &OutputOptions<'_>,
     outcome: Outcome,
-    name: &str,
+    name: &[u8],
     reader: &mut R,
     writer: &mut Headed<W>,
     totals: &mut Stats,
 ) -> Result<u64, Fault>
     ensures same { finder.new ≡ finder.old }
-    ensures reported { (by : SearchesFor finder.old (lists_matches task.entry.asked.now)) → IfSome (R.remaining reader.old) (λ bytes.
+    ensures reported { is_plain task.entry.asked.now.reading task.entry.asked.now.heading what.now.print ≡ false
+        → (by : SearchesFor finder.old (lists_in task.entry.asked.now.reading what.now)) → IfSome (R.remaining reader.old) (λ bytes.
         IsInputReported (W.contents writer.old.writer) (W.contents writer.new.writer) result
-        (report_for task.entry.asked.now.reading task.entry zero outcome (patterns_by by) name.now bytes)
-        (whole_report_for task.entry.asked.now.reading task.entry zero outcome (patterns_by by) name.now bytes)
-        (count_for task.entry.asked.now.reading task.entry zero (patterns_by by) name.now bytes)) }
+        (report_by task.entry.asked.now.reading (is_headed task.entry.asked.now.heading what.now.print) task.entry what.now outcome
+        (patterns_by by) name.now bytes)
+        (whole_report_by task.entry.asked.now.reading (is_headed task.entry.asked.now.heading what.now.print) task.entry what.now outcome
+        (patterns_by by) name.now bytes)
+        (body_count task.entry.asked.now.reading what.now (patterns_by by) name.now bytes)) }
 {
-    let what = options_for(task, zero);
-    let name = name.as_bytes();
     if !is_by_lines(task.asked.reading) {
         return report_whole(
-            alloc, finder, task, &what, outcome, name, reader, writer, totals,
+            alloc, finder, task, what, outcome, name, reader, writer, totals,
         );
     }
-    if is_headed(task.asked.heading, what.print) {
-        return report_headed(
-            alloc,
-            finder,
-            &what,
-            name,
-            task.with_name,
-            outcome.printed,
-            reader,
-            writer,
-        );
-    }
-    report_input(
-        alloc,
-        finder,
-        &what,
-        name,
-        task.with_name,
-        outcome.known(),
-        reader,
-        &mut writer.writer,
+    let with_name = task.with_name;
+    let printed = outcome.printed;
+    report_headed(
+        alloc, finder, what, name, with_name, printed, reader, writer,
     )
 }

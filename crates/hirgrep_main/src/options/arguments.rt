@@ -2,7 +2,9 @@
 
 use crate::results::messages::report_output;
 use crate::results::shown::{Shown, ShownLines};
-use clap::Error;
+use crate::results::stop::Stop;
+use clap::{ArgMatches, Error};
+use grep_options::{command, with_numbers};
 use std::alloc::AllocError;
 use std::io::ErrorKind;
 use std::rt::Runtime;
@@ -31,7 +33,7 @@ fn report_broken(rt: &HostRuntime) {
 }
 
 /// The arguments, starting with the program's name. If one isn't UTF-8, reports it and returns none.
-pub fn arguments_of(rt: &HostRuntime) -> Result<Option<Vec<String>>, AllocError> {
+fn arguments_of(rt: &HostRuntime) -> Result<Option<Vec<String>>, AllocError> {
     let words = match env::args(rt) {
         Ok(words) => words,
         Err(e) => {
@@ -49,9 +51,24 @@ pub fn arguments_of(rt: &HostRuntime) -> Result<Option<Vec<String>>, AllocError>
     Ok(Some(owned))
 }
 
+/// The words of the command line, starting with the program's name: the arguments, with `-C` before each number that is an option of its own.
+/// If an argument isn't UTF-8, reports it.
+pub fn words_of(rt: &HostRuntime) -> Result<Vec<String>, Stop> {
+    let Some(arguments) = arguments_of(rt)? else {
+        return Err(Stop::With(2));
+    };
+    match with_numbers(rt.alloc(), arguments.as_slice())? {
+        Some(words) => Ok(words),
+        None => {
+            let _ = eprintln!(rt; "hirgrep: an argument isn't UTF-8");
+            Err(Stop::With(2))
+        }
+    }
+}
+
 /// Prints what was asked for instead of a search, as `--help` does, or reports why the command line can't be understood. Returns the exit
 /// status.
-pub fn report_usage(rt: &HostRuntime, error: &Error) -> Result<u8, AllocError> {
+fn report_usage(rt: &HostRuntime, error: &Error) -> Result<u8, AllocError> {
     if error.use_stderr() {
         let text = error.to_string(rt.alloc())?;
         let lines = ShownLines(text.as_str());
@@ -63,6 +80,19 @@ pub fn report_usage(rt: &HostRuntime, error: &Error) -> Result<u8, AllocError> {
         Err(e) => {
             report_output(rt, &e);
             Ok(2)
+        }
+    }
+}
+
+/// The options and operands that the words of the command line give. If they can't be understood, or ask for something else than a search as
+/// `--help` does, reports that or prints it.
+pub fn matches_of<'a>(rt: &HostRuntime, words: &'a [String]) -> Result<ArgMatches<'a>, Stop> {
+    let command = command(rt.alloc())?;
+    match command.try_get_matches_from(words) {
+        Ok(matches) => Ok(matches),
+        Err(error) => {
+            let status = report_usage(rt, &error)?;
+            Err(Stop::With(status))
         }
     }
 }

@@ -34,7 +34,7 @@ pub struct Texts<'a> {
 }
 
 /// Whether file names are printed before lines.
-#[derive(Clone, Copy, PartialEq, Eq)]
+#[derive(Clone, Copy)]
 pub enum Names {
     Always,
     Never,
@@ -53,7 +53,7 @@ pub enum Directories {
 }
 
 /// Which devices, pipes and sockets are read.
-#[derive(Clone, Copy, PartialEq, Eq)]
+#[derive(Clone, Copy)]
 pub enum Devices {
     ReadAll,
     /// Those that arguments name are read.

@@ -1,5 +1,5 @@
 //! What is decided from the options alone.
-ghost use Rattle.std.specs.Prelude.{◌≡◌, true, false, None, map};
+ghost use Rattle.std.specs.Prelude.{◌≡◌, true, false, None, map, string_bytes};
 ghost use Rattle.hirgrep_main.specs.Decisions.{is_most, may_run_on, prints_all, prints_names_if_none, reads_found, reads_named, selects_none};
 ghost use Rattle.hirgrep_main.specs.Decisions.{shows_names, wants_none};
 ghost use Rattle.hirgrep_main.specs.Readings.{lists_matches, prints_summary};
@@ -79,20 +79,22 @@ pub fn is_named(asked: &Asked, may_be_several: bool) -> bool
 
 /// Whether these patterns select no line, whatever it is: there is no pattern, or with `-v` the only one is empty. With `-w` and `-x` an
 /// empty pattern doesn't match in every line.
-fn wants_none(asked: &Asked, patterns: &[&str]) -> bool
-    ensures { result ≡ wants_none asked.now.what asked.now.how (map (λ p. p.now) patterns.now) }
+fn wants_none(asked: &Asked, patterns: &[String]) -> bool
+    ensures { result ≡ wants_none asked.now.what asked.now.how (map string_bytes patterns.now) }
 {
     match patterns {
         [] => !asked.what.invert,
-        [only] => asked.what.invert && only.is_empty() && !(asked.how.lines || asked.how.words),
+        [only] => asked.what.invert
+            && only.as_str().is_empty()
+            && !(asked.how.lines || asked.how.words),
         _ => false,
     }
 }
 
 /// Whether no line can be selected, and nothing is printed whatever the inputs are, or counts of 0 alone. With `--json` the patterns don't
 /// decide it, since what is searched is counted.
-pub fn selects_none(asked: &Asked, patterns: &[&str]) -> bool
-    ensures { result ≡ selects_none asked.now (map (λ p. p.now) patterns.now) }
+pub fn selects_none(asked: &Asked, patterns: &[String]) -> bool
+    ensures { result ≡ selects_none asked.now (map string_bytes patterns.now) }
 {
     let never = is_most(0, asked.what.most)
         || !prints_json(asked.reading) && wants_none(asked, patterns);

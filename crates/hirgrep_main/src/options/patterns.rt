@@ -1,14 +1,19 @@
 //! The patterns that options give.
-ghost use Rattle.std.specs.Prelude.{◌≡◌, ◌++◌, ◌∷◌, [], ℕ, List, IfOk, IfSome, IsTrue, OnOk, length, map, string_bytes};
+ghost use Rattle.std.specs.Prelude.{◌≡◌, ◌++◌, ◌∷◌, [], ℕ, List, None, IfOk, IfSome, IsTrue, OnOk, length, map, string_bytes};
 ghost use Rattle.std.specs.List.{flat_map};
 ghost use Rattle.std.specs.Str.Lines.{lines};
 ghost use Rattle.clap.specs.Words.{found_of};
+ghost use Rattle.line_search.specs.Meant.{written};
 ghost use Rattle.hirgrep_main.specs.Given.{ArePatterns, patterns_of_file, gives_patterns, lines_as_patterns};
 
 use crate::inputs::input::input;
+use crate::longest_first::put_longest_first;
 use crate::options::asked::Asked;
-use crate::results::messages::report_error;
+use crate::options::decisions::lists_matches;
+use crate::results::messages::{is_misnamed, report_error};
+use crate::results::stop::Stop;
 use clap::ArgMatches;
+use line_search::pattern_source;
 use std::alloc::{AllocError, Global};
 use std::rt::Runtime;
 use std::{fs, io};
@@ -40,7 +45,7 @@ fn push_lines(alloc: Global, patterns: &mut Vec<String>, text: &str) -> Result<(
 }
 
 /// The patterns in an argument, one on each line.
-pub fn lines_of(alloc: Global, text: &str) -> Result<Vec<String>, AllocError>
+fn lines_of(alloc: Global, text: &str) -> Result<Vec<String>, AllocError>
     ensures { IfOk result (λ v. map string_bytes v.items ≡ lines_as_patterns text.now) }
 {
     let mut patterns = Vec::new(alloc);
@@ -131,14 +136,14 @@ fn push_files<'a>(
 }
 
 /// Whether `-e` or `-f` gives patterns, so that all operands are files.
-pub fn gives_patterns(matches: &ArgMatches<'_>) -> bool
+fn gives_patterns(matches: &ArgMatches<'_>) -> bool
     ensures { result ≡ gives_patterns (found_of matches.now) }
 {
     matches.contains_id("regexp") || matches.contains_id("file")
 }
 
 /// The patterns that `-e` and `-f` give. The files are appended to a list. If one can't be read, reports the error and returns none.
-pub fn patterns_of<'a>(
+fn patterns_of<'a>(
     rt: &HostRuntime,
     asked: &Asked,
     matches: &'a ArgMatches<'_>,
@@ -153,4 +158,120 @@ pub fn patterns_of<'a>(
     let names = matches.get_strs("file").unwrap_or(&[]);
     let is_read = push_files(rt, asked, &mut patterns, files, names)?;
     Ok(if is_read { Some(patterns) } else { None })
+}
+
+/// The patterns in the first operand, one on each line. If there is no operand, reports that and returns none.
+fn patterns_in_words(rt: &HostRuntime, words: &[&str]) -> Result<Option<Vec<String>>, AllocError>
+    ensures { words.now ≡ [] → IfOk result (λ o. o ≡ None) }
+{
+    match words.first() {
+        Some(text) => {
+            let patterns = lines_of(rt.alloc(), text)?;
+            Ok(Some(patterns))
+        }
+        None => {
+            let _ = eprintln!(rt; "hirgrep: no pattern; see hirgrep --help");
+            Ok(None)
+        }
+    }
+}
+
+/// The operands that name files: all of them, or, without `-e` and `-f`, all but the first. If files are listed, there are no patterns.
+pub fn names_of_files<'m>(matches: &'m ArgMatches<'_>, lists: bool) -> &'m [&'m str] {
+    let words = matches.get_strs("words").unwrap_or(&[]);
+    if lists || gives_patterns(matches) {
+        return words;
+    }
+    let Some((_, names)) = words.split_first() else {
+        return words;
+    };
+    names
+}
+
+/// The patterns that are searched for, as they are given. The files of which they are read are appended to a list. If there is none, or a file
+/// can't be read, reports that and returns none.
+fn given_patterns<'a>(
+    rt: &HostRuntime,
+    asked: &Asked,
+    matches: &'a ArgMatches<'_>,
+    lists: bool,
+    files: &mut Vec<PatternFile<'a>>,
+) -> Result<Option<Vec<String>>, AllocError> {
+    if lists {
+        return Ok(Some(Vec::new(rt.alloc())));
+    }
+    if gives_patterns(matches) {
+        return patterns_of(rt, asked, matches, files);
+    }
+    patterns_in_words(rt, matches.get_strs("words").unwrap_or(&[]))
+}
+
+pub fn strs_of<'a>(alloc: Global, texts: &'a [String]) -> Result<Vec<&'a str>, AllocError>
+    ensures { IfOk result (λ v. map (λ s. s.now) v.items ≡ map string_bytes texts.now) }
+{
+    let mut words: Vec<&str> = Vec::new(alloc);
+    for text in texts {
+        words.push(text.as_str())?;
+    }
+    Ok(words)
+}
+
+/// The patterns in the syntax that is parsed.
+fn texts_of(alloc: Global, asked: &Asked, patterns: &[&str]) -> Result<Vec<String>, AllocError>
+    ensures { IfOk result (λ v. map string_bytes v.items ≡ map (λ p. written asked.now.how.fixed p.now) patterns.now) }
+{
+    let mut texts = Vec::new(alloc);
+    for pattern in patterns {
+        let text = pattern_source(alloc, asked.how.fixed, pattern)?;
+        texts.push(text)?;
+    }
+    Ok(texts)
+}
+
+/// The patterns in the syntax that is parsed, in the order in which they are preferred.
+fn parsed_patterns(
+    alloc: Global,
+    asked: &Asked,
+    given: &[String],
+) -> Result<Vec<String>, AllocError> {
+    let mut patterns = strs_of(alloc, given)?;
+    if lists_matches(asked) {
+        put_longest_first(asked.how.fixed, &mut patterns)?;
+    }
+    texts_of(alloc, asked, patterns.as_slice())
+}
+
+/// The patterns that are searched for.
+#[derive(Drop)]
+pub struct Patterns<'a> {
+    /// As they are given.
+    pub given: Vec<String>,
+    /// In the syntax that is parsed, in the order in which they are preferred.
+    pub parsed: Vec<String>,
+    /// The files of which they were read.
+    pub files: Vec<PatternFile<'a>>,
+}
+
+impl<'a> Patterns<'a> {
+    /// The patterns that the command line gives. Reports it if there is none, if a file can't be read, or if one has a class without a name.
+    pub fn given(
+        rt: &HostRuntime,
+        asked: &Asked,
+        matches: &'a ArgMatches<'_>,
+        lists: bool,
+    ) -> Result<Patterns<'a>, Stop> {
+        let mut files = Vec::new(rt.alloc());
+        let Some(given) = given_patterns(rt, asked, matches, lists, &mut files)? else {
+            return Err(Stop::With(2));
+        };
+        if !asked.how.fixed && is_misnamed(rt, &files, &given)? {
+            return Err(Stop::With(2));
+        }
+        let parsed = parsed_patterns(rt.alloc(), asked, &given)?;
+        Ok(Patterns {
+            given,
+            parsed,
+            files,
+        })
+    }
 }

@@ -5,7 +5,7 @@ ghost use Rattle.hirgrep_main.specs.SmartCase.{after_nested, after_plain, after_
 ghost use Rattle.hirgrep_main.specs.SmartCase.{after_char, no_scan, next_pattern, scan_chars, scan_texts, after_hex_digit, after_value, digits_of, after_braced, after_class, after_until};
 
 /// What is read next of a pattern.
-#[derive(Clone, Copy, PartialEq, Eq)]
+#[derive(Clone, Copy)]
 enum Mode {
     /// A character outside of classes, or in one.
     Item,

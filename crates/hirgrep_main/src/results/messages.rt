@@ -3,7 +3,7 @@
 use crate::class_names::{Misnamed, first_misnamed};
 use crate::options::asked::Asked;
 use crate::options::loops::loop_offset;
-use crate::options::patterns::PatternFile;
+use crate::options::patterns::{PatternFile, Patterns};
 use crate::results::shown::Shown;
 use hirhead::pointed;
 use lazy_dfa::BuildError;
@@ -103,18 +103,26 @@ fn report_pattern(
     Ok(())
 }
 
+/// The pattern with this number.
+fn pattern_at(patterns: &[String], number: usize) -> &str {
+    match patterns.get(number) {
+        Some(pattern) => pattern.as_str(),
+        None => "",
+    }
+}
+
 /// Reports why a pattern is rejected, and shows the offset of the error.
 fn report_refused(
     rt: &HostRuntime,
     from: &[PatternFile<'_>],
-    patterns: &[&str],
+    patterns: &[String],
     error: PatternError,
 ) -> Result<(), AllocError> {
     let number = error.number;
     let ParseError::Refused { kind, span } = error.error else {
         return Err(AllocError);
     };
-    let pattern = patterns.get(number).copied().unwrap_or("");
+    let pattern = pattern_at(patterns, number);
     let place = Some(span.start);
     report_pattern(rt, from, number, kind.message(), pattern, place)
 }
@@ -125,19 +133,19 @@ fn report_loop(
     rt: &HostRuntime,
     config: &Config,
     from: &[PatternFile<'_>],
-    patterns: &[&str],
+    patterns: &[String],
     number: usize,
 ) -> Result<(), AllocError> {
     let message =
         "matches can't be printed or marked, since what is repeated without a bound may be empty";
-    let pattern = patterns.get(number).copied().unwrap_or("");
+    let pattern = pattern_at(patterns, number);
     let place = loop_offset(rt.alloc(), config, pattern)?;
     report_pattern(rt, from, number, message, pattern, place)
 }
 
 /// Reports why the patterns can't be compiled. A limit on their size is named.
-fn report_build(rt: &HostRuntime, patterns: &[&str], error: BuildError) -> Result<(), AllocError> {
-    let which = match patterns.len() {
+fn report_build(rt: &HostRuntime, count: usize, error: BuildError) -> Result<(), AllocError> {
+    let which = match count {
         1 => "pattern 0 is",
         _ => "the patterns together are",
     };
@@ -184,9 +192,10 @@ fn report_misnamed(
 pub fn is_misnamed(
     rt: &HostRuntime,
     from: &[PatternFile<'_>],
-    patterns: &[&str],
+    patterns: &[String],
 ) -> Result<bool, AllocError> {
     for (number, pattern) in patterns.iter().enumerate() {
+        let pattern = pattern.as_str();
         if let Some(misnamed) = first_misnamed(pattern) {
             report_misnamed(rt, from, number, pattern, misnamed)?;
             return Ok(true);
@@ -195,19 +204,19 @@ pub fn is_misnamed(
     Ok(false)
 }
 
-/// Reports why no finder can be built. `texts` are the patterns in the syntax that is parsed under these options.
+/// Reports why no finder can be built, of patterns that are parsed under these options.
 pub fn report_no_finder(
     rt: &HostRuntime,
     config: &Config,
-    from: &[PatternFile<'_>],
-    patterns: &[&str],
-    texts: &[&str],
+    patterns: &Patterns<'_>,
     error: SearcherError,
 ) -> Result<(), AllocError> {
+    let from = patterns.files.as_slice();
+    let given = patterns.given.as_slice();
     match error {
-        SearcherError::Text(error) => report_refused(rt, from, texts, error),
-        SearcherError::EmptyLoop(number) => report_loop(rt, config, from, patterns, number),
-        SearcherError::Build(error) => report_build(rt, patterns, error),
+        SearcherError::Text(error) => report_refused(rt, from, patterns.parsed.as_slice(), error),
+        SearcherError::EmptyLoop(number) => report_loop(rt, config, from, given, number),
+        SearcherError::Build(error) => report_build(rt, given.len(), error),
     }
 }
 

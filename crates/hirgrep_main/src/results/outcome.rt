@@ -1,7 +1,7 @@
 //! The outcome of a search.
 ghost use Rattle.std.specs.Prelude.{◌≡◌, nat_lt};
 ghost use Rattle.hirgrep_main.specs.Decisions.{prints_nothing, status};
-ghost use Rattle.hirgrep_main.specs.Outcomes.{after_result, after_search, is_of_output, known_of, no_outcome};
+ghost use Rattle.hirgrep_main.specs.Outcomes.{Continues, after_result, after_search, is_of_output, known_of, no_outcome};
 ghost use Rattle.hirgrep_main.specs.Outcomes.{with_failure, with_file, with_lines};
 
 use crate::options::asked::Asked;
@@ -209,7 +209,9 @@ impl Outcome {
     }
 
     /// Prints the sum of what was searched, as JSON, unless the output can't be written.
-    pub fn write_summary(&mut self, rt: &HostRuntime) -> Result<(), AllocError> {
+    pub fn write_summary(&mut self, rt: &HostRuntime) -> Result<(), AllocError>
+        ensures { Continues self.old self.new }
+    {
         if self.ended {
             return Ok(());
         }
@@ -224,17 +226,20 @@ impl Outcome {
 
     /// Prints the statistics of the searches to standard error.
     pub fn report_stats(&self, rt: &HostRuntime, finder: &Finder<'_>) {
-        let files = self.files;
-        let bytes = self.bytes;
-        let selected = self.lines;
-        let clears = finder.clear_count();
-        let kept = finder.memory_usage();
+        report_counts(rt, self.files, self.bytes, self.lines);
+        report_caches(rt, finder.clear_count(), finder.memory_usage());
         let lines = finder.slow_lines();
-        let _ = eprintln!(rt; "hirgrep: files read: {files}\nhirgrep: bytes read: {bytes}");
-        let _ = eprintln!(rt; "hirgrep: lines selected: {selected}");
-        let _ = eprintln!(rt;
-            "hirgrep: caches cleared: {clears}\nhirgrep: bytes in caches: {kept}"
-        );
         let _ = eprintln!(rt; "hirgrep: lines in which automata gave up: {lines}");
     }
+}
+
+/// Prints how many files and bytes were read, and how many lines were selected.
+fn report_counts(rt: &HostRuntime, files: u64, bytes: u64, selected: u64) {
+    let _ = eprintln!(rt; "hirgrep: files read: {files}\nhirgrep: bytes read: {bytes}");
+    let _ = eprintln!(rt; "hirgrep: lines selected: {selected}");
+}
+
+/// Prints how often caches were cleared, and how many bytes they have.
+fn report_caches(rt: &HostRuntime, clears: usize, kept: usize) {
+    let _ = eprintln!(rt; "hirgrep: caches cleared: {clears}\nhirgrep: bytes in caches: {kept}");
 }
