@@ -2,7 +2,9 @@
  * Times a search in which a state is left by few bytes, far apart: `a[^..]+\x01;|Z!` over 8 MiB of the letters a to k with a byte of the class
  * at each distance. It prints the set, the distance, and picoseconds a byte, the least processor time of nine rounds.
  *
- *     cc -O2 -I capi -o sets bench/sets.c dist/x86_64-v3-linux/libhanneddois.a -lpthread -ldl -lm && ./sets
+ *     cc -O2 -I capi -o sets bench/sets.c dist/x86_64-v3-linux/libhanneddois.a -lpthread -ldl -lm && ./sets [--in-turn]
+ *
+ * With --in-turn, one regex of a set searches all inputs, the densest one first, so that its caches last from one input to the next.
  */
 #include <stdio.h>
 #include <stdlib.h>
@@ -54,31 +56,31 @@ static double search(hanneddois_regex *regex, const unsigned char *haystack)
     return least;
 }
 
-/* Searches with caches of its own, and prints a row. */
-static int measure(const char *const set[2], size_t distance, unsigned char *haystack)
+/* Makes the regex of a set, in place of the one that is there. */
+static int make(hanneddois_regex *regex, const char *bytes)
 {
     char pattern[200];
     hanneddois_options options = {0};
     hanneddois_error error;
-    hanneddois_regex regex = {0};
-    size_t length = (size_t)snprintf(pattern, sizeof pattern, "(?-u:a[^%s]+\\x01;|Z!)", set[0]);
-    if (hanneddois_new(&regex, (const uint8_t *)pattern, length, &length, 1, &options, &error) != HANNEDDOIS_OK)
-        return 0;
-    fill(haystack, distance);
-    printf("%-12s %4zu %6.0f\n", set[1], distance, search(&regex, haystack) / (double)LENGTH);
-    hanneddois_free(&regex);
-    return 1;
+    size_t length = (size_t)snprintf(pattern, sizeof pattern, "(?-u:a[^%s]+\\x01;|Z!)", bytes);
+    hanneddois_free(regex);
+    return hanneddois_new(regex, (const uint8_t *)pattern, length, &length, 1, &options, &error) == HANNEDDOIS_OK;
 }
 
-int main(void)
+int main(int argc, char **argv)
 {
+    int in_turn = argc > 1 && strcmp(argv[1], "--in-turn") == 0;
     unsigned char *haystack = malloc(LENGTH);
+    hanneddois_regex regex = HANNEDDOIS_EMPTY;
     for (size_t set = 0; haystack && set < sizeof SETS / sizeof *SETS; set++) {
         for (size_t i = 0; i < sizeof DISTANCES / sizeof *DISTANCES; i++) {
-            if (!measure(SETS[set], DISTANCES[i], haystack))
+            if ((i == 0 || !in_turn) && !make(&regex, SETS[set][0]))
                 return 1;
+            fill(haystack, DISTANCES[i]);
+            printf("%-12s %4zu %6.0f\n", SETS[set][1], DISTANCES[i], search(&regex, haystack) / (double)LENGTH);
         }
     }
+    hanneddois_free(&regex);
     free(haystack);
     return 0;
 }

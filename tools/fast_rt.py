@@ -1,6 +1,7 @@
 #!/usr/bin/env python3
-"""The toolchain's rt, which computes each crate's checksum once in a call. By itself rt does that once for each path through crates.txt,
-thousands for the upper crates: a minute or two for each check of these.
+"""The toolchain's rt, which computes each crate's checksum once in a call, and whose `try` doesn't look for reserved names. By itself the rt of
+older kits computes a checksum once for each path through crates.txt, thousands for the upper crates: a minute or two for each check of these. `rt try`
+reads all crates a second time for these names, next to the run, which takes as long as what it compiles; rt check finds them too.
 
     tools/fast_rt.py WORD..    rt with these words
 
@@ -53,6 +54,16 @@ def compute_once(rtlib):
     rtlib.Crate.stamp, rtlib.Crate.below = stamp, all_below
 
 
+def leave_out_names(rtlib):
+    """Lets the pass of rt try that looks for reserved names end at once."""
+    plain = rtlib.Crate.words
+
+    def words(self, flags, tests=False, keeps=True, as_source=False):
+        return ["--help"] if as_source and "--start" in flags else plain(self, flags, tests, keeps, as_source)
+
+    rtlib.Crate.words = words
+
+
 def run_rt(words):
     """Runs the toolchain's rt in this process."""
     with open(RT, encoding="utf-8") as file:
@@ -61,8 +72,9 @@ def run_rt(words):
     if line not in source:
         os.execv(RT, [RT, *words])
     sys.argv = [RT, *words]
-    code = source.replace(line, f"{line}compute_once(rtlib)\n", 1)
-    exec(compile(code, RT, "exec"), {"__name__": "__main__", "__file__": RT, "compute_once": compute_once})  # pylint: disable=exec-used
+    code = source.replace(line, f"{line}compute_once(rtlib)\n{'leave_out_names(rtlib)' if words[:1] == ['try'] else ''}\n", 1)
+    names = {"__name__": "__main__", "__file__": RT, "compute_once": compute_once, "leave_out_names": leave_out_names}
+    exec(compile(code, RT, "exec"), names)  # pylint: disable=exec-used
 
 
 if __name__ == "__main__":

@@ -82,7 +82,7 @@ class Races:
 
     def race_checks(self):
         """GNU grep opens what it finds in a folder without following links and without waiting for a writer."""
-        opened = "hirgrep_main/src/opening.rt: search_file opens what search_kind found"
+        opened = "hirgrep_main/src/files/opening.rt: search_file opens what search_kind found"
         yield Check("a file becomes a FIFO before it is opened", lambda: self.file(os.mkfifo), 1, b"", "", Known(opened, None, ""))
         link = lambda path: os.symlink("../outside", path)
         yield Check("a file becomes a link before it is opened", lambda: self.file(link), 1, b"", "", Known(opened, 0, "", b"races/file:ab\n"))
@@ -114,7 +114,7 @@ class Races:
 
     def output_checks(self):
         """GNU grep asks for the files of descriptors, which needs no path: so it also works where there is no /dev."""
-        grows = Known("hirgrep_main/src/walking.rt: is_output asks for paths in /dev", 2, error("write error", "File too large"), LINE * 2)
+        grows = Known("hirgrep_main/src/files/walking.rt: is_output asks for paths in /dev", 2, error("write error", "File too large"), LINE * 2)
         for name, is_named, last in (("own", True, 3), ("(standard input)", False, 2)):
             said = error(name, "input file is also the output")
             yield Check(f"{name} is also the output", lambda it=is_named: self.own_output(9, it), 2, LINE, said)

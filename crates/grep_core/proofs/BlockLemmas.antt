@@ -1,6 +1,7 @@
 -- The first line of a haystack, and its last one.
 use Rattle.std.proofs.Common.{◌≡◌, ◌≤◌, ◌<◌, ℕ, zero, suc, ◌+◌, Bool, true, false, cond, List, [], ◌∷◌, ◌++◌, length, take, drop}
 use Rattle.std.proofs.Common.{drop-drop, append-nil, nat_eq, Some, None, nat_lt, if◌then◌else◌, refl, sym, ap, ap₂, ◌∙◌, arith}
+use Rattle.std.proofs.Transfers.{drop-appended}
 use Rattle.std.proofs.lemmas.Option.{none-some}
 use Rattle.std.proofs.lemmas.Bool.{ltb-true, ltb-false}
 use Rattle.std.specs.List.{position, position_or_len}
@@ -95,43 +96,6 @@ turn_counted counts p q block more text piece all done len rest found cut so_far
     ∙ ap (λ t. counts p (split_lines (t ++ more))) rest
     ∙ so_far
 
--- a last line that no line feed ends
-pub open_told : {P : Type 0} (reports : P → List SplitLine → List ℕ) (p q : P) (rest out new : List ℕ) → position is_feed rest ≡ None →
-    0 < length rest →
-    out ++ reports p (unended rest ∷ []) ≡ new ++ reports q [] → out ++ reports p (split_lines rest) ≡ new ++ reports q []
-open_told reports p q rest out new unended some reported = ap (λ lines. out ++ reports p lines) (last_line rest unended some) ∙ reported
-
-pub open_counted : {P : Type 0} (counts : P → List SplitLine → ℕ) (p q : P) (rest : List ℕ) → position is_feed rest ≡ None →
-    0 < length rest →
-    counts q [] ≡ counts p (unended rest ∷ []) → counts q [] ≡ counts p (split_lines rest)
-open_counted counts p q rest unended some reported = reported ∙ sym (ap (counts p) (last_line rest unended some))
-
-pub none_open : (rest : List ℕ) → length rest ≡ 0 → split_lines rest ≡ []
-none_open [] none = refl
-none_open (x ∷ xs) none = absurd (omega (arith, none))
-
--- what is left of a haystack that has ended
-pub tail_told : {P : Type 0} (reports : P → List SplitLine → List ℕ) (p q r : P) (read rest out one two three : List ℕ) (done : ℕ) →
-    rest ≡ drop done read →
-    out ++ reports p (split_lines (read ++ [])) ≡ one ++ reports q (split_lines (drop done read ++ [])) →
-    one ++ reports q (split_lines rest) ≡ two ++ reports r [] →
-    three ≡ two ++ reports r [] → out ++ reports p (split_lines read) ≡ three
-tail_told reports p q r read rest out one two three done is whole unended end =
-    ap (λ l. out ++ reports p (split_lines l)) (sym (append-nil read))
-    ∙ whole
-    ∙ ap (λ l. one ++ reports q (split_lines l)) (append-nil (drop done read) ∙ sym is)
-    ∙ unended
-    ∙ sym end
-
-pub tail_counted : {P : Type 0} (counts : P → List SplitLine → ℕ) (p q r : P) (read rest : List ℕ) (done : ℕ) → rest ≡ drop done read →
-    counts q (split_lines (drop done read ++ [])) ≡ counts p (split_lines (read ++ [])) → counts r [] ≡ counts q (split_lines rest) →
-    counts r [] ≡ counts p (split_lines read)
-tail_counted counts p q r read rest done is whole unended =
-    unended
-    ∙ ap (λ l. counts q (split_lines l)) (is ∙ sym (append-nil (drop done read)))
-    ∙ whole
-    ∙ ap (λ l. counts p (split_lines l)) (append-nil read)
-
 pub is_none : (b : Bool) (n : ℕ) → b ≡ nat_eq n 0 → b ≡ true → n ≡ 0
 is_none b zero is e = refl
 is_none b (suc n) is e = absurd (grind (arith, is, e))
@@ -139,3 +103,48 @@ is_none b (suc n) is e = absurd (grind (arith, is, e))
 pub is_some : (b : Bool) (n : ℕ) → b ≡ nat_eq n 0 → b ≡ false → 0 < n
 is_some b zero is e = absurd (grind (arith, is, e))
 is_some b (suc n) is e = omega arith
+
+-- ---- bytes without a line feed
+none_from : (text : List ℕ) → length text ≤ position_or_len is_feed text → (v : Bool) →
+    nat_lt (position_or_len is_feed text) (length text) ≡ v → position is_feed text ≡ None
+none_from text many true e = absurd (omega (arith, many, ltb-true (position_or_len is_feed text) (length text) e))
+none_from text many false e = ap (λ b. cond b (Some (position_or_len is_feed text)) None) e
+
+past_end : (text : List ℕ) → position is_feed text ≡ None → length text ≤ position_or_len is_feed text
+past_end text e =
+    ltb-false (position_or_len is_feed text) (length text)
+    (none_at (nat_lt (position_or_len is_feed text) (length text)) (position_or_len is_feed text) e)
+
+abbrev JoinsUnfed : List ℕ → List ℕ → Type 0
+JoinsUnfed xs ys = length xs ≤ position_or_len is_feed xs → length ys ≤ position_or_len is_feed ys →
+    length (xs ++ ys) ≤ position_or_len is_feed (xs ++ ys)
+
+joins_by : (x : ℕ) (xs ys : List ℕ) → JoinsUnfed xs ys → (v : Bool) → is_feed x ≡ v → JoinsUnfed (x ∷ xs) ys
+joins_by x xs ys rest true e one two = absurd (omega (arith, one, first_at x xs true e))
+joins_by x xs ys rest false e one two =
+    let more = rest (omega (arith, one, first_at x xs false e)) two in
+    omega (arith, more, first_at x (xs ++ ys) false e)
+
+joins_unfed : (xs ys : List ℕ) → JoinsUnfed xs ys
+joins_unfed [] ys one two = two
+joins_unfed (x ∷ xs) ys one two = joins_by x xs ys (joins_unfed xs ys) (is_feed x) refl one two
+
+-- after a read
+pub unfed_more : (read bytes after : List ℕ) → after ≡ read ++ bytes → position is_feed read ≡ None →
+    position is_feed (drop (length read) after) ≡ None → position is_feed after ≡ None
+unfed_more read bytes after is one two =
+    let new : drop (length read) after ≡ bytes = drop-appended read after bytes is in
+    let both = joins_unfed read bytes (past_end read one) (past_end bytes (ap (position is_feed) (sym new) ∙ two)) in
+    ap (position is_feed) is
+    ∙ none_from (read ++ bytes) both (nat_lt (position_or_len is_feed (read ++ bytes)) (length (read ++ bytes))) refl
+
+pub unfed_same : (read bytes after : List ℕ) (n : ℕ) → after ≡ read ++ bytes → length bytes ≡ n → n ≡ 0 → position is_feed read ≡ None →
+    position is_feed after ≡ None
+unfed_same read [] after n is long none one = ap (position is_feed) (is ∙ append-nil read) ∙ one
+unfed_same read (x ∷ xs) after n is long none one = absurd (omega (arith, long, none))
+
+-- after whole lines
+pub unfed_rest : (read bytes text rest : List ℕ) (first done : ℕ) → bytes ≡ read → text ≡ drop first bytes → rest ≡ drop (first + done) read →
+    position is_feed (drop done text) ≡ None → position is_feed rest ≡ None
+unfed_rest read bytes text rest first done is cut left none =
+    ap (position is_feed) (left ∙ sym (drop-drop done first read) ∙ ap (λ l. drop done (drop first l)) (sym is) ∙ ap (drop done) (sym cut)) ∙ none

@@ -127,13 +127,6 @@ moves_past block at start behind whole below from past on = elim (cases_lt at st
       (λ some. subst (λ (n : ℕ). n < behind) same (on (λ none. some (sym (ap (λ (n : ℕ). position is_feed (drop n block)) same) ∙ none))))
 ]
 
-pub starts_past : (block : List ℕ) (start behind : ℕ) → IsLineStart block start → start ≤ behind →
-    (start < behind → IsLineStart block behind) → IsLineStart block behind
-starts_past block start behind here past there = elim (cases_lt start behind) [
-  | inl less ↦ there less
-  | inr over ↦ let same : start ≡ behind = omega (arith, past, over) in subst (λ (n : ℕ). IsLineStart block n) same here
-]
-
 -- ---- the whole lines of a block, and what comes after them
 rejoin : (block more : List ℕ) (whole done : ℕ) → done ≤ whole →
     drop done (take whole block) ++ (drop whole block ++ more) ≡ drop done block ++ more

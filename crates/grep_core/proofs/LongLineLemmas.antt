@@ -11,7 +11,7 @@ use Rattle.regex_hir.specs.Re.{Re}
 use Rattle.regex_hir.specs.Find.{Match, find, find_all}
 use Rattle.pattern_search.specs.Searches.{span_of_match}
 use Rattle.pattern_search.specs.Texts.{AreReadAs}
-use Rattle.grep_core.specs.Blocks.{SearchesBy, Writes, WritesPart, counts_lines, finds_by, reported_bytes}
+use Rattle.grep_core.specs.Blocks.{IsOver, SearchesBy, Writes, WritesLast, WritesPart, counts_lines, finds_by, reported_bytes}
 use Rattle.grep_core.specs.ContextPrinting.{Item, item, print_as, print_item, still}
 use Rattle.line_search.specs.Fallbacks.{found_at, next_after, spans_following}
 use Rattle.line_search.specs.Lines.{SplitLine, TextLine, ended, numbered, searched, split_lines, unended}
@@ -22,7 +22,7 @@ use Rattle.line_search.specs.Patterns.{has_match_in, spans_in}
 use Rattle.grep_core.specs.Printing.{column_of, exceeds, fields, is_long, line_bytes, long_text, printed_for, printed_line, printed_match}
 use Rattle.grep_core.specs.Printing.{printed_matches, printed_once, printed_with, shows_matches, tab, trimmed}
 use Rattle.line_search.specs.LineMatchers.{LineMatcher}
-use Rattle.grep_core.specs.Report.{shown_by, shown_line, shown_spans}
+use Rattle.grep_core.specs.Report.{counted_as, shown_by, shown_line, shown_spans}
 use Rattle.grep_core.specs.Reporting.{added, added_matches, count_in_all, may_select, needs_of, needs_spans, number_of, prints_lines, shown, still_reported}
 use Rattle.line_search.specs.Searchers.{IsMatchReported, Sought, found_by}
 use Rattle.grep_core.specs.declared.output_options.OutputOptions.{OutputOptions}
@@ -36,7 +36,7 @@ use Rattle.grep_core.proofs.BlockLemmas.{first_line, last_line}
 use Rattle.line_search.proofs.ForCallers.{is_feed, spans_of_matches}
 use Rattle.grep_core.proofs.SeenLemmas.{progress_by}
 use Rattle.grep_core.proofs.TellingLemmas.{line_counted, line_told, lines_told, number_told, selects}
-use Rattle.grep_core.proofs.WriteLemmas.{taken_before, then_part, then_writes}
+use Rattle.grep_core.proofs.WriteLemmas.{taken_before}
 
 -- ---- what follows from a clause that holds after a call
 pub on_ok : {E X Y : Type 0} (r : Result (Unit {0}) E) → (X → Y) → OnOk r X → OnOk r Y
@@ -441,43 +441,57 @@ module _ (t : Task) (f : LineMatcher) where
     subst (λ lines. Appends w v (take part.0 (reported_bytes t f p lines))) (sym (first_is read piece more len found cut)) part.1,
   )
 
-  -- a line, and what follows it
-  pub first_then : (o p q : Progress) (read mid rest more : List ℕ) (done : ℕ) (u w v : Option (List ℕ)) → mid ≡ drop done read →
-      Writes t f o p (read ++ more) (drop done read ++ more) u w → Writes t f p q (mid ++ more) (rest ++ more) w v →
-      Writes t f o q (read ++ more) (rest ++ more) u v
-  first_then o p q read mid rest more done u w v is a b =
-      then_writes t f o p q (read ++ more) (drop done read ++ more) (rest ++ more) u w v a
-      (subst (λ l. Writes t f p q (l ++ more) (rest ++ more) w v) is b)
+  -- the last line, which no line feed ends
+  pub last_written : (p q : Progress) (read more : List ℕ) (w v : Option (List ℕ)) → position is_feed read ≡ None → 0 < length read →
+      more ≡ [] → WritesLines t f p q (unended read ∷ []) [] w v → WritesLast t f p q (read ++ more) w v
+  last_written p q read more w v unfed some none a =
+      let lines : split_lines (read ++ more) ≡ unended read ∷ [] =
+      ap (λ m. split_lines (read ++ m)) none ∙ ap split_lines (append-nil read) ∙ last_line read unfed some in
+      record {
+        reported = a.sends.sent;
+        written = a.sends.written;
+        printed = ap (reported_bytes t f p) lines ∙ a.sends.is;
+        counted = ap (counted_as t.what.now.print) (a.counted ∙ sym (ap (counts_lines t f p) lines));
+      }
 
-  pub first_then_part : (o p : Progress) (read mid more : List ℕ) (done : ℕ) (u w v : Option (List ℕ)) → mid ≡ drop done read →
-      Writes t f o p (read ++ more) (drop done read ++ more) u w → WritesPart t f p (mid ++ more) w v →
-      WritesPart t f o (read ++ more) u v
-  first_then_part o p read mid more done u w v is a b =
-      then_part t f o p (read ++ more) (drop done read ++ more) u w v a (subst (λ l. WritesPart t f p (l ++ more) w v) is b)
+  pub last_begun : (p : Progress) (read more : List ℕ) (w v : Option (List ℕ)) → position is_feed read ≡ None → 0 < length read →
+      more ≡ [] → (n : ℕ) × Appends w v (take n (reported_bytes t f p (unended read ∷ []))) → WritesPart t f p (read ++ more) w v
+  last_begun p read more w v unfed some none part =
+      let lines : split_lines (read ++ more) ≡ unended read ∷ [] =
+      ap (λ m. split_lines (read ++ m)) none ∙ ap split_lines (append-nil read) ∙ last_line read unfed some in
+      (part.0, subst (λ l. Appends w v (take part.0 (reported_bytes t f p l))) (sym lines) part.1)
 
-  -- the last line and what is printed after it
-  pub last_written : (p q : Progress) (read : List ℕ) (u w v : Option (List ℕ)) → position is_feed read ≡ None → 0 < length read →
-      WritesLines t f p q (unended read ∷ []) [] u w → Appends w v (reported_bytes t f q []) →
-      Appends u v (reported_bytes t f p (split_lines read))
-  last_written p q read u w v open_ some a written =
-      subst (Appends u v) (sym (ap (reported_bytes t f p) (last_line read open_ some) ∙ a.sends.is))
-      (Appends-trans u w v a.sends.sent (reported_bytes t f q []) a.sends.written written)
+  -- there is none
+  pub none_last : (p : Progress) (read more : List ℕ) (w : Option (List ℕ)) → length read ≡ 0 → more ≡ [] →
+      WritesLast t f p p (read ++ more) w w
+  none_last p [] more w empty none = record {
+    reported = [];
+    written = Appends-nil w;
+    printed = ap (λ m. reported_bytes t f p (split_lines m)) none;
+    counted = sym (ap (λ m. counted_as t.what.now.print (counts_lines t f p (split_lines m))) none);
+  }
+  none_last p (x ∷ xs) more w empty none = absurd (omega (arith, empty))
 
-  pub last_counted : (p q : Progress) (read : List ℕ) (u w : Option (List ℕ)) → position is_feed read ≡ None → 0 < length read →
-      WritesLines t f p q (unended read ∷ []) [] u w → counts_lines t f q [] ≡ counts_lines t f p (split_lines read)
-  last_counted p q read u w open_ some a = a.counted ∙ sym (ap (counts_lines t f p) (last_line read open_ some))
+  -- nothing more is printed
+  pub over_last : (p : Progress) (text : List ℕ) (w : Option (List ℕ)) → IsOver t p → WritesLast t f p p text w w
+  over_last p text w over = record {
+    reported = [];
+    written = Appends-nil w;
+    printed = over.printed f (split_lines text);
+    counted = sym (over.counted f (split_lines text));
+  }
 
-  pub last_begun : (p : Progress) (read : List ℕ) (u w : Option (List ℕ)) → position is_feed read ≡ None → 0 < length read →
-      (n : ℕ) × Appends u w (take n (reported_bytes t f p (unended read ∷ []))) → WritesPart t f p read u w
-  last_begun p read u w open_ some part =
-      (part.0, subst (λ lines. Appends u w (take part.0 (reported_bytes t f p lines))) (sym (last_line read open_ some)) part.1)
+  -- and what is printed after all lines
+  pub all_last : (p q : Progress) (text : List ℕ) (u w v : Option (List ℕ)) → WritesLast t f p q text u w →
+      Appends w v (reported_bytes t f q []) → Appends u v (reported_bytes t f p (split_lines text))
+  all_last p q text u w v a written =
+      subst (Appends u v) (sym a.printed) (Appends-trans u w v a.reported (reported_bytes t f q []) a.written written)
 
-  pub last_part : (p q : Progress) (read : List ℕ) (u w v : Option (List ℕ)) → position is_feed read ≡ None → 0 < length read →
-      WritesLines t f p q (unended read ∷ []) [] u w → (n : ℕ) × Appends w v (take n (reported_bytes t f q [])) → WritesPart t f p read u v
-  last_part p q read u w v open_ some a part = (
-    length a.sends.sent + part.0,
+  pub last_part : (p q : Progress) (text : List ℕ) (u w v : Option (List ℕ)) → WritesLast t f p q text u w →
+      (n : ℕ) × Appends w v (take n (reported_bytes t f q [])) → WritesPart t f p text u v
+  last_part p q text u w v a part = (
+    length a.reported + part.0,
     subst (Appends u v)
-        (sym (ap (take (length a.sends.sent + part.0)) (ap (reported_bytes t f p) (last_line read open_ some) ∙ a.sends.is)
-        ∙ take-append-add a.sends.sent (reported_bytes t f q []) part.0))
-        (Appends-trans u w v a.sends.sent (take part.0 (reported_bytes t f q [])) a.sends.written part.1),
+        (sym (ap (take (length a.reported + part.0)) a.printed ∙ take-append-add a.reported (reported_bytes t f q []) part.0))
+        (Appends-trans u w v a.reported (take part.0 (reported_bytes t f q [])) a.written part.1),
   )

@@ -1,5 +1,6 @@
 -- The whole lines among the first bytes of what was read, and the pieces that are written one after the other.
-use Rattle.std.proofs.Common.{◌≡◌, ◌≤◌, ℕ, ◌+◌, List, ◌++◌, [], length, take, drop, Option, refl, subst, arith}
+use Rattle.std.proofs.Common.{◌≡◌, ◌≤◌, ℕ, ◌+◌, List, ◌++◌, [], length, take, drop, Option, refl, sym, subst, arith}
+use Rattle.std.proofs.lemmas.List.{drop-drop}
 use Rattle.std.specs.Io.KnownBytes.{Appends}
 use Rattle.grep_core.specs.Blocks.{Writes, WritesPart, counts_lines, reported_bytes}
 use Rattle.grep_core.specs.declared.progress.Progress.{Progress}
@@ -47,3 +48,33 @@ module _ (t : Task) (f : LineMatcher) where
       Writes t f o p (read ++ more) (drop done read ++ more) u w → WritesPart t f p (text ++ more) w v → WritesPart t f o (read ++ more) u v
   pieces_part o p read more text done u w v is a b =
       then_part t f o p (read ++ more) (drop done read ++ more) u w v a (subst (λ l. WritesPart t f p (l ++ more) w v) is b)
+
+  -- the lines from an offset on
+  pub lines_written : (o p q : Progress) (read more text empty out shown : List ℕ) (first done : ℕ) (u w v : Option (List ℕ)) →
+      text ≡ drop first read → empty ≡ [] → shown ≡ out → Writes t f o p (read ++ more) (drop first read ++ more) u w →
+      empty ++ reported_bytes t f p (split_lines (text ++ more)) ≡ out ++ reported_bytes t f q (split_lines (drop done text ++ more)) →
+      counts_lines t f q (split_lines (drop done text ++ more)) ≡ counts_lines t f p (split_lines (text ++ more)) →
+      Appends w v shown → Writes t f o q (read ++ more) (drop (first + done) read ++ more) u v
+  lines_written o p q read more text empty out shown first done u w v is none seen a told counted written =
+      pieces_written o p q read more text first done u w v is (drop-drop done first read) a
+      (read_writes t f p q text text text (drop done text) more empty out shown done w v none refl refl refl seen told counted written)
+
+  pub lines_part : (o p q : Progress) (read more text empty out shown : List ℕ) (first done : ℕ) (u w v : Option (List ℕ)) →
+      text ≡ drop first read → empty ≡ [] → shown ≡ out → Writes t f o p (read ++ more) (drop first read ++ more) u w →
+      empty ++ reported_bytes t f p (split_lines (text ++ more)) ≡ out ++ reported_bytes t f q (split_lines (drop done text ++ more)) →
+      (n : ℕ) × Appends w v (take n shown) → WritesPart t f o (read ++ more) u v
+  lines_part o p q read more text empty out shown first done u w v is none seen a told part =
+      pieces_part o p read more text first u w v is a
+      (read_part t f p q text text text (drop done text) more empty out shown done w v none refl refl refl seen told part)
+
+  -- the lines of what was read, after which the bytes before them are forgotten
+  pub block_written : (o p q : Progress) (read bytes text rest more empty out shown : List ℕ) (first done : ℕ) (u w v : Option (List ℕ)) →
+      bytes ≡ read → text ≡ drop first bytes → rest ≡ drop (first + done) read → empty ≡ [] → shown ≡ out →
+      Writes t f o p (bytes ++ more) (drop first bytes ++ more) u w →
+      empty ++ reported_bytes t f p (split_lines (text ++ more)) ≡ out ++ reported_bytes t f q (split_lines (drop done text ++ more)) →
+      counts_lines t f q (split_lines (drop done text ++ more)) ≡ counts_lines t f p (split_lines (text ++ more)) →
+      Appends w v shown → Writes t f o q (read ++ more) (rest ++ more) u v
+  block_written o p q read bytes text rest more empty out shown first done u w v is cut left none seen a told counted written =
+      subst (λ l. Writes t f o q (read ++ more) (l ++ more) u v) (sym left)
+      (subst (λ l. Writes t f o q (l ++ more) (drop (first + done) l ++ more) u v) is
+      (lines_written o p q bytes more text empty out shown first done u w v cut none seen a told counted written))

@@ -172,31 +172,6 @@ module _ (t : Task) (f : LineMatcher) where
       WritesPart t f o (x ++ text) u w
   reads_part o p x y text now u w a = then_part o p (x ++ text) (y ++ a.rest) u w w a.writes (none_part p (y ++ a.rest) w)
 
-  -- a haystack that has ended is all that was read of it
-  pub ended_written : (p : Progress) (read more : List ℕ) (w v : Option (List ℕ)) → more ≡ [] → Appends w v (reports p read) →
-      Appends w v (reports p (read ++ more))
-  ended_written p read more w v none written = subst (λ l. Appends w v (reports p l))
-      (sym (append-nil read) ∙ ap (λ m. read ++ m) (sym none)) written
-
-  pub ended_counted : (p q : Progress) (read more : List ℕ) → more ≡ [] → counts_lines t f q [] ≡ counts_lines t f p (split_lines read) →
-      counted_as t.what.now.print (counts_lines t f q []) ≡ counted_as t.what.now.print (counts_lines t f p (split_lines (read ++ more)))
-  ended_counted p q read more none counted =
-      ap (counted_as t.what.now.print) (counted ∙ ap (λ l. counts_lines t f p (split_lines l)) (sym (append-nil read)
-      ∙ ap (λ m. read ++ m) (sym none)))
-
-  pub ended_part : (p : Progress) (read more : List ℕ) (w v : Option (List ℕ)) → more ≡ [] → WritesPart t f p read w v →
-      WritesPart t f p (read ++ more) w v
-  ended_part p read more w v none part = subst (λ l. WritesPart t f p l w v) (sym (append-nil read) ∙ ap (λ m. read ++ m) (sym none)) part
-
-  -- of one of which nothing more is reported
-  pub over_written : (p : Progress) (text : List ℕ) (w v : Option (List ℕ)) → IsOver t p → Appends w v (reported_bytes t f p []) →
-      Appends w v (reports p text)
-  over_written p text w v over written = subst (Appends w v) (sym (over.printed f (split_lines text))) written
-
-  pub over_part : (p : Progress) (text : List ℕ) (w v : Option (List ℕ)) → IsOver t p →
-      (n : ℕ) × Appends w v (take n (reported_bytes t f p [])) → WritesPart t f p text w v
-  over_part p text w v over part = (part.0, subst (λ l. Appends w v (take part.0 l)) (sym (over.printed f (split_lines text))) part.1)
-
   -- all of it is a beginning too
   pub whole_part : (p : Progress) (text : List ℕ) (w v u : Option (List ℕ)) → Appends w v (reports p text) → Keeps v u →
       WritesPart t f p text w u

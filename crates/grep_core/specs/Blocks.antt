@@ -58,6 +58,14 @@ pub record ReadsAndWrites (t : Task) (f : LineMatcher) (old new : Progress) (bef
 abbrev pub WritesPart : Task → LineMatcher → Progress → List ℕ → Option (List ℕ) → Option (List ℕ) → Type 0
 WritesPart t f p text empty full = (n : ℕ) × Appends empty full (take n (reported_bytes t f p (split_lines text)))
 
+-- The output for all that was left of an input was written, but for what is printed after all lines. The number of selected lines is right
+-- as it is counted.
+pub record WritesLast (t : Task) (f : LineMatcher) (old new : Progress) (text : List ℕ) (empty full : Option (List ℕ)) : Type 0 where
+  pub reported : List ℕ
+  pub written : Appends empty full reported
+  pub printed : reported_bytes t f old (split_lines text) ≡ reported ++ reported_bytes t f new []
+  pub counted : counted_as t.what.now.print (counts_lines t f new []) ≡ counted_as t.what.now.print (counts_lines t f old (split_lines text))
+
 -- The next lines change neither what is printed nor the number that is counted, whatever they are.
 pub record IsOver (t : Task) (p : Progress) : Type 0 where
   pub printed : (f : LineMatcher) (lines : List SplitLine) → reported_bytes t f p lines ≡ reported_bytes t f p []

@@ -2,7 +2,7 @@
 ghost use Rattle.std.specs.Prelude.{◌≡◌, ◌++◌, ◌∷◌, [], ℕ, ◌+◌, ◌≤◌, ◌==◌, List, None, OnOk, IfOk, drop, length, ◌<◌, ◌≢◌, take, true};
 ghost use Rattle.std.specs.List.{position};
 ghost use Rattle.grep_core.specs.Blocks.{SearchesBy, ReportsUpTo, finds_by, reported_bytes, counts_lines};
-ghost use Rattle.line_search.specs.Candidates.{HasMatchAt, IsLineStart};
+ghost use Rattle.line_search.specs.Candidates.{IsLineStart, IsNextLine};
 ghost use Rattle.grep_core.specs.ContextPrinting.{Waits};
 ghost use Rattle.line_search.specs.Lines.{SplitLine, searched};
 ghost use Rattle.grep_core.specs.Skipping.{AreWhole};
@@ -13,8 +13,84 @@ use crate::looking::{look_at, shown_bytes};
 use crate::passing::skip_lines;
 use crate::progress::{Progress, Task, pass};
 use crate::reporter::report_line;
-use line_search::{Fault, Finder, feed_at, line_start};
+use line_search::{Fault, Finder, Reached, feed_at, line_start};
 use std::alloc::Global;
+
+/// Processes the whole lines at the start of a block. Returns the number of their bytes.
+pub(crate) fn report_block(
+    alloc: Global,
+    out: &mut Vec<u8>,
+    finder: &mut Finder<'_>,
+    task: Task<'_>,
+    progress: &mut Progress,
+    block: &[u8],
+) -> Result<usize, Fault>
+    requires { Waits task.what.now progress.old.telling.course }
+    ensures same { finder.new ≡ finder.old }
+    ensures waits { OnOk result (Waits task.entry.what.now progress.new.telling.course) }
+    ensures within { IfOk result (λ done. done ≤ length block.now) }
+    ensures all { IfOk result (λ done. position (λ b. b == 10) (drop done block.now) ≡ None) }
+    ensures reports { IfOk result (λ done. ReportsUpTo task.entry finder.old progress.old progress.new out.old.items out.new.items
+        block.now (drop done block.now)) }
+{
+    let whole = line_start(block, 0, block.len());
+    let lines = &block[..whole];
+    let mut done = 0usize;
+    while done < whole {
+        let reached = match finder.next_line(alloc, lines, done) {
+            Ok(reached) => reached,
+            Err(e) => return Err(e),
+        };
+        done = match report_reached(alloc, out, finder, task, progress, lines, done, reached) {
+            Ok(next) => next,
+            Err(e) => return Err(e),
+        };
+    }
+    Ok(done)
+}
+
+/// Processes lines from the start of a line on: those before the next line that may have a match, which a search reached, and that line if
+/// it is known to have one or is the first. Returns the offset after them. The block consists of whole lines.
+fn report_reached(
+    alloc: Global,
+    out: &mut Vec<u8>,
+    finder: &mut Finder<'_>,
+    task: Task<'_>,
+    progress: &mut Progress,
+    block: &[u8],
+    at: usize,
+    reached: Reached,
+) -> Result<usize, Fault>
+    requires waits { Waits task.what.now progress.old.telling.course }
+    requires below { at < length block.now }
+    requires whole { AreWhole block.now }
+    requires next { IsNextLine finder.old.how finder.old.texts block.now at reached }
+    ensures same { finder.new ≡ finder.old }
+    ensures waits { OnOk result (Waits task.entry.what.now progress.new.telling.course) }
+    ensures on { IfOk result (λ next. at < next) }
+    ensures within { IfOk result (λ next. next ≤ length block.now) }
+    ensures starts { IfOk result (λ next. IsLineStart block.now next) }
+    ensures reports { IfOk result (λ next. ReportsUpTo task.entry finder.old progress.old progress.new out.old.items out.new.items
+        (drop at block.now) (drop next block.now)) }
+{
+    let start = reached.start;
+    match skip_lines(alloc, out, task, progress, &block[at..start]) {
+        Ok(()) => {}
+        Err(e) => return Err(e),
+    }
+    if at < start && !reached.has {
+        return Ok(start);
+    }
+    let len = match feed_at(&block[start..]) {
+        Some(len) => len,
+        None => return Ok(start),
+    };
+    let line = &block[start..start + len];
+    match report_one(alloc, out, finder, task, progress, line, true, reached.has) {
+        Ok(()) => Ok(start + len + 1),
+        Err(e) => Err(e),
+    }
+}
 
 /// Processes one line. The line is given without its line feed. `is_known` says whether it is known to have a match.
 pub fn report_one(
@@ -68,135 +144,4 @@ pub fn report_one(
         Ok(()) => Ok(()),
         Err(e) => Err(e),
     }
-}
-
-/// The length in bytes of the whole lines at the start of a block.
-fn whole_len(block: &[u8]) -> usize
-    ensures within { result ≤ length block.now }
-    ensures whole { AreWhole (take result block.now) }
-    ensures rest { position (λ b. b == 10) (drop result block.now) ≡ None }
-{
-    line_start(block, 0, block.len())
-}
-
-/// Processes the line that starts at an offset, if a line feed ends it. `is_known` says whether it is known to have a match. Returns the
-/// offset after the line.
-fn report_here(
-    alloc: Global,
-    out: &mut Vec<u8>,
-    finder: &mut Finder<'_>,
-    task: Task<'_>,
-    progress: &mut Progress,
-    block: &[u8],
-    at: usize,
-    is_known: bool,
-) -> Result<usize, Fault>
-    requires waits { Waits task.what.now progress.old.telling.course }
-    requires within { at ≤ length block.now }
-    requires known { is_known ≡ true → HasMatchAt finder.old.how finder.old.texts block.now at }
-    ensures same { finder.new ≡ finder.old }
-    ensures waits { OnOk result (Waits task.entry.what.now progress.new.telling.course) }
-    ensures within { IfOk result (λ next. next ≤ length block.now) }
-    ensures on { position (λ b. b == 10) (drop at block.now) ≢ None → IfOk result (λ next. at < next) }
-    ensures from { IfOk result (λ next. at ≤ next) }
-    ensures starts { IfOk result (λ next. at < next → IsLineStart block.now next) }
-    ensures reports { IfOk result (λ next. ReportsUpTo task.entry finder.old progress.old progress.new out.old.items out.new.items
-        (drop at block.now) (drop next block.now)) }
-{
-    let Some(len) = feed_at(&block[at..]) else {
-        return Ok(at);
-    };
-    match report_one(
-        alloc,
-        out,
-        finder,
-        task,
-        progress,
-        &block[at..at + len],
-        true,
-        is_known,
-    ) {
-        Ok(()) => {}
-        Err(e) => return Err(e),
-    }
-    Ok(at + len + 1)
-}
-
-/// Processes lines from the start of a line on: those before the next line that may have a match, and that line if it is known to have one
-/// or is the first. Returns the offset after them. The block consists of whole lines.
-fn report_next(
-    alloc: Global,
-    out: &mut Vec<u8>,
-    finder: &mut Finder<'_>,
-    task: Task<'_>,
-    progress: &mut Progress,
-    block: &[u8],
-    at: usize,
-) -> Result<usize, Fault>
-    requires waits { Waits task.what.now progress.old.telling.course }
-    requires below { at < length block.now }
-    requires starts { IsLineStart block.now at }
-    requires whole { AreWhole block.now }
-    ensures same { finder.new ≡ finder.old }
-    ensures waits { OnOk result (Waits task.entry.what.now progress.new.telling.course) }
-    ensures on { IfOk result (λ next. at < next) }
-    ensures within { IfOk result (λ next. next ≤ length block.now) }
-    ensures starts { IfOk result (λ next. IsLineStart block.now next) }
-    ensures reports { IfOk result (λ next. ReportsUpTo task.entry finder.old progress.old progress.new out.old.items out.new.items
-        (drop at block.now) (drop next block.now)) }
-{
-    let reached = match finder.next_line(alloc, block, at) {
-        Ok(reached) => reached,
-        Err(e) => return Err(e),
-    };
-    let start = reached.start;
-    match skip_lines(alloc, out, task, progress, &block[at..start]) {
-        Ok(()) => {}
-        Err(e) => return Err(e),
-    }
-    if at < start && !reached.has {
-        return Ok(start);
-    }
-    let next = match report_here(
-        alloc,
-        out,
-        finder,
-        task,
-        progress,
-        block,
-        start,
-        reached.has,
-    ) {
-        Ok(next) => next,
-        Err(e) => return Err(e),
-    };
-    Ok(next)
-}
-
-/// Processes the whole lines at the start of a block. Returns the number of their bytes.
-pub(crate) fn report_block(
-    alloc: Global,
-    out: &mut Vec<u8>,
-    finder: &mut Finder<'_>,
-    task: Task<'_>,
-    progress: &mut Progress,
-    block: &[u8],
-) -> Result<usize, Fault>
-    requires { Waits task.what.now progress.old.telling.course }
-    ensures same { finder.new ≡ finder.old }
-    ensures waits { OnOk result (Waits task.entry.what.now progress.new.telling.course) }
-    ensures within { IfOk result (λ done. done ≤ length block.now) }
-    ensures all { IfOk result (λ done. position (λ b. b == 10) (drop done block.now) ≡ None) }
-    ensures reports { IfOk result (λ done. ReportsUpTo task.entry finder.old progress.old progress.new out.old.items out.new.items
-        block.now (drop done block.now)) }
-{
-    let whole = whole_len(block);
-    let mut done = 0usize;
-    while done < whole {
-        done = match report_next(alloc, out, finder, task, progress, &block[..whole], done) {
-            Ok(next) => next,
-            Err(e) => return Err(e),
-        };
-    }
-    Ok(done)
 }

@@ -12,7 +12,7 @@ use std::alloc::AllocError;
 
 /// The colours of a terminal in which parts of the output are shown. Each is the text between `ESC [` and `m` in the sequence that sets it.
 /// If that is empty, the part isn't marked.
-#[derive(Clone, Copy, Debug, PartialEq, Eq)]
+#[derive(Clone, Copy)]
 pub struct Colors<'a> {
     /// That of the names of inputs.
     pub names: &'a [u8],
@@ -37,7 +37,7 @@ pub struct Colors<'a> {
 }
 
 /// A part of the output that may be marked.
-#[derive(Clone, Copy, Debug, PartialEq, Eq)]
+#[derive(Clone, Copy)]
 pub(crate) enum Part {
     Name,
     Number,

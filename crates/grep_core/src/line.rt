@@ -1,5 +1,5 @@
 /// A line without its line feed.
-#[derive(Clone, Copy, Debug)]
+#[derive(Clone, Copy)]
 pub struct Line<'a> {
     /// Its number, counted from 1.
     pub number: u64,

@@ -290,7 +290,7 @@ fn write_selected<W: Write>(
 }
 
 /// Writes the output for a line whose matches are listed before they are printed.
-fn write_listed<W: Write>(
+pub(crate) fn write_listed<W: Write>(
     alloc: Global,
     writer: &mut W,
     finder: &mut Finder<'_>,

@@ -1,7 +1,7 @@
 use crate::colors::Colors;
 
 /// How many lines are printed as context.
-#[derive(Clone, Copy, Debug, PartialEq, Eq)]
+#[derive(Clone, Copy)]
 pub struct Context {
     /// Lines before each selected line.
     pub before: u64,
@@ -12,7 +12,7 @@ pub struct Context {
 }
 
 /// What is printed for an input.
-#[derive(Clone, Copy, Debug, PartialEq, Eq)]
+#[derive(Clone, Copy, PartialEq, Eq)]
 pub enum Print {
     /// The selected lines.
     Lines,
@@ -31,7 +31,7 @@ pub enum Print {
 }
 
 /// What separates groups of lines that aren't adjacent.
-#[derive(Clone, Copy, Debug, PartialEq, Eq)]
+#[derive(Clone, Copy)]
 pub enum GroupSeparator<'a> {
     /// A line of two hyphens.
     Hyphens,
@@ -42,7 +42,7 @@ pub enum GroupSeparator<'a> {
 }
 
 /// What is asked for.
-#[derive(Clone, Copy, Debug, PartialEq, Eq)]
+#[derive(Clone, Copy)]
 pub struct OutputOptions<'a> {
     /// If set, the lines without a match are selected instead of those with one.
     pub invert: bool,

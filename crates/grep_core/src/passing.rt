@@ -78,16 +78,6 @@ fn last_lines(lines: &[u8], count: u64) -> usize
     start
 }
 
-/// Whether a line without a match is, at this point, neither selected nor owed to a selected one as context.
-fn may_pass(what: &OutputOptions<'_>, course: &ContextPrinter) -> bool
-    ensures { IsTrue result → MaySkip what.now course.now }
-{
-    if what.invert {
-        return false;
-    }
-    !prints_lines(what.print) || course.left == 0
-}
-
 /// Whether processing lines without a match one by one can stop. It can if such lines can be skipped, unless `all` asks for all of them.
 fn stops(what: &OutputOptions<'_>, course: &ContextPrinter, all: bool) -> bool
     ensures may { IsTrue result → MaySkip what.now course.now }
@@ -96,7 +86,10 @@ fn stops(what: &OutputOptions<'_>, course: &ContextPrinter, all: bool) -> bool
     if all {
         return false;
     }
-    may_pass(what, course)
+    if what.invert {
+        return false;
+    }
+    !prints_lines(what.print) || course.left == 0
 }
 
 /// Whether the output depends on the numbers of lines or on their offsets.
@@ -216,30 +209,8 @@ fn report_each(
     Ok(done)
 }
 
-/// Processes lines without a match. Those that may be printed, depending on what follows, are processed one by one, and all others at once.
-fn report_lacking(
-    alloc: Global,
-    out: &mut Vec<u8>,
-    task: Task<'_>,
-    progress: &mut Progress,
-    lines: &[u8],
-) -> Result<(), Fault>
-    requires waits { Waits task.what.now progress.old.telling.course }
-    requires whole { AreWhole lines.now }
-    ensures waits { OnOk result (Waits task.entry.what.now progress.new.telling.course) }
-    ensures passes { OnOk result ((f : LineMatcher) →
-        PassesLinesTo task.entry f progress.old progress.new lines.now [] out.old.items out.new.items) }
-{
-    let done = report_each(alloc, out, task, progress, lines, false)?;
-    if done == lines.len() {
-        return Ok(());
-    }
-    let start = skip_over(task, progress, &lines[done..])?;
-    let _ = report_each(alloc, out, task, progress, &lines[done + start..], true)?;
-    Ok(())
-}
-
-/// Processes lines without a match. They are empty or end with a line feed.
+/// Processes lines without a match. They are empty or end with a line feed. Those that may be printed, depending on what follows, are
+/// processed one by one, and all others at once.
 pub(crate) fn skip_lines(
     alloc: Global,
     out: &mut Vec<u8>,
@@ -259,5 +230,11 @@ pub(crate) fn skip_lines(
         counts_lines task.entry (finds_by task.entry by) progress.new (split_lines more)
         ≡ counts_lines task.entry (finds_by task.entry by) progress.old (split_lines (lines.now ++ more))) }
 {
-    report_lacking(alloc, out, task, progress, lines)
+    let done = report_each(alloc, out, task, progress, lines, false)?;
+    if done == lines.len() {
+        return Ok(());
+    }
+    let start = skip_over(task, progress, &lines[done..])?;
+    let _ = report_each(alloc, out, task, progress, &lines[done + start..], true)?;
+    Ok(())
 }

@@ -3,7 +3,7 @@ ghost use Rattle.std.specs.Prelude.{◌≡◌, ◌==◌, None, ◌++◌, ◌<◌
 ghost use Rattle.std.specs.Prelude.{true, false, length};
 ghost use Rattle.std.specs.Io.KnownBytes.{Appends, IsAtEnd, Keeps};
 ghost use Rattle.std.specs.List.{position};
-ghost use Rattle.grep_core.specs.Blocks.{SearchesBy, finds_by, reported_bytes, counts_lines, Writes, ReadsAndWrites, WritesPart, IsOver};
+ghost use Rattle.grep_core.specs.Blocks.{SearchesBy, finds_by, reported_bytes, counts_lines, Writes, ReadsAndWrites, WritesLast, WritesPart, IsOver};
 ghost use Rattle.grep_core.specs.ContextPrinting.{Waits};
 ghost use Rattle.line_search.specs.Lines.{split_lines};
 ghost use Rattle.line_search.specs.LineMatchers.{LineMatcher};
@@ -12,10 +12,10 @@ ghost use Rattle.line_search.specs.Searchers.{SearchesFor, found_by};
 ghost use Rattle.grep_core.specs.Reporting.{needs_spans};
 ghost use Rattle.grep_core.specs.declared.progress.Task.{Task as TheTask};
 
-use crate::blocks::{report_block, report_one};
+use crate::blocks::report_block;
 use crate::context_printer::first_of;
 use crate::line_buffer::LineBuffer;
-use crate::long_lines::{prints_each, prints_matches, write_line};
+use crate::long_lines::{prints_each, prints_matches, write_line, write_listed};
 use crate::output_options::{OutputOptions, Print};
 use crate::progress::{Progress, Task};
 use crate::reporter::{Reporter, counted_as, is_over, report_end};
@@ -33,608 +33,6 @@ const LONG: usize = 1 << 20;
 /// If lines are printed once for each of their matches, lines of this many bytes or more are printed while their matches are searched for.
 /// The output for shorter lines is written after at most so many bytes of them.
 const PIECE: usize = 4096;
-
-/// What follows a block.
-#[derive(Clone, Copy)]
-enum Next {
-    More,
-    End,
-    /// Nothing is printed for the next lines, whatever they are.
-    Over,
-}
-
-/// Writes all bytes. On an error, the bytes that were written are a prefix of them.
-pub fn write_out<W: Write>(writer: &mut W, out: &[u8]) -> Result<(), Fault>
-    ensures ok { OnOk result (Appends (W.contents writer.old) (W.contents writer.new) out.now) }
-    ensures part { IfErr result (λ _. (n : ℕ) × Appends (W.contents writer.old) (W.contents writer.new) (take n out.now)) }
-{
-    let mut done = 0usize;
-    while done < out.len() {
-        match writer.write(&out[done..]) {
-            Ok(0) => return Err(Fault::Write(ErrorKind::WriteZero)),
-            Ok(n) => done += n,
-            Err(e) => return Err(Fault::Write(e.kind())),
-        }
-    }
-    Ok(())
-}
-
-/// Flushes the writer.
-pub fn flush<W: Write>(writer: &mut W) -> Result<(), Fault>
-    ensures { Keeps (W.contents writer.old) (W.contents writer.new) }
-{
-    match writer.flush() {
-        Ok(()) => Ok(()),
-        Err(e) => Err(Fault::Write(e.kind())),
-    }
-}
-
-/// Whether nothing is printed for the next lines, whatever they are.
-pub fn is_task_over(task: Task<'_>, progress: &Progress) -> bool
-    ensures { IsTrue result → IsOver task.entry progress.now }
-{
-    is_over(task.what, &progress.telling)
-}
-
-/// Whether an input is so long that the matches of its first line are printed one after the other, if they are printed alone or the line is
-/// printed for each.
-fn begins_long(task: Task<'_>, read: &[u8]) -> bool
-    ensures { IsTrue result → 0 < length read.now }
-{
-    if prints_each(task.what) {
-        return read.len() >= PIECE;
-    }
-    read.len() >= LONG && prints_matches(task.what)
-}
-
-/// Writes the output for the first line of an input if it is long and its matches may be printed, while these are searched for. Returns the
-/// offset after that line, or 0 if it is left to other calls.
-fn write_first_line<W: Write>(
-    alloc: Global,
-    writer: &mut W,
-    finder: &mut Finder<'_>,
-    task: Task<'_>,
-    read: &[u8],
-    progress: &mut Progress,
-) -> Result<usize, Fault>
-    requires { Waits task.what.now progress.old.telling.course }
-    ensures same { finder.new ≡ finder.old }
-    ensures waits { OnOk result (Waits task.entry.what.now progress.new.telling.course) }
-    ensures within { IfOk result (λ done. done ≤ length read.now) }
-    ensures writes { IfOk result (λ done. (by : SearchesBy task.entry finder.old) (more : List ℕ) →
-        Writes task.entry (finds_by task.entry by) progress.old progress.new (read.now ++ more) (drop done read.now ++ more)
-        (W.contents writer.old) (W.contents writer.new)) }
-    ensures fault { IfErr result (λ _. (by : SearchesBy task.entry finder.old) (more : List ℕ) →
-        WritesPart task.entry (finds_by task.entry by) progress.old (read.now ++ more) (W.contents writer.old)
-        (W.contents writer.new)) }
-{
-    if !begins_long(task, read) {
-        return Ok(0);
-    }
-    let Some(len) = feed_at(read) else {
-        return Ok(0);
-    };
-    match write_line(alloc, writer, finder, task, progress, &read[..len], true) {
-        Ok(()) => {}
-        Err(e) => return Err(e),
-    }
-    Ok(len + 1)
-}
-
-/// Writes the output for the whole lines among the first bytes of an input. Returns how many bytes they have.
-fn write_piece<W: Write>(
-    alloc: Global,
-    writer: &mut W,
-    finder: &mut Finder<'_>,
-    task: Task<'_>,
-    read: &[u8],
-    progress: &mut Progress,
-    len: usize,
-) -> Result<usize, Fault>
-    requires waits { Waits task.what.now progress.old.telling.course }
-    requires within { len ≤ length read.now }
-    ensures same { finder.new ≡ finder.old }
-    ensures waits { OnOk result (Waits task.entry.what.now progress.new.telling.course) }
-    ensures within { IfOk result (λ done. done ≤ length read.now) }
-    ensures writes { IfOk result (λ done. (by : SearchesBy task.entry finder.old) (more : List ℕ) →
-        Writes task.entry (finds_by task.entry by) progress.old progress.new (read.now ++ more) (drop done read.now ++ more)
-        (W.contents writer.old) (W.contents writer.new)) }
-    ensures fault { IfErr result (λ _. (by : SearchesBy task.entry finder.old) (more : List ℕ) →
-        WritesPart task.entry (finds_by task.entry by) progress.old (read.now ++ more) (W.contents writer.old)
-        (W.contents writer.new)) }
-{
-    let mut out = Vec::new(alloc);
-    let done = match report_block(alloc, &mut out, finder, task, progress, &read[..len]) {
-        Ok(done) => done,
-        Err(e) => return Err(e),
-    };
-    match write_out(writer, &out) {
-        Ok(()) => Ok(done),
-        Err(e) => Err(e),
-    }
-}
-
-/// The length of the whole lines among the first bytes of an input, if lines are printed once for each of their matches, and else 0.
-fn piece_len(task: Task<'_>, read: &[u8]) -> usize
-    ensures { result ≤ length read.now }
-{
-    if !prints_each(task.what) {
-        return 0;
-    }
-    line_start(read, 0, PIECE)
-}
-
-/// Writes the output for the first lines of an input, or for one long line, if its matches may be printed while they are searched for. Returns
-/// the offset after them, or 0 if they are left to other calls.
-fn write_first<W: Write>(
-    alloc: Global,
-    writer: &mut W,
-    finder: &mut Finder<'_>,
-    task: Task<'_>,
-    read: &[u8],
-    progress: &mut Progress,
-) -> Result<usize, Fault>
-    requires { Waits task.what.now progress.old.telling.course }
-    ensures same { finder.new ≡ finder.old }
-    ensures waits { OnOk result (Waits task.entry.what.now progress.new.telling.course) }
-    ensures within { IfOk result (λ done. done ≤ length read.now) }
-    ensures writes { IfOk result (λ done. (by : SearchesBy task.entry finder.old) (more : List ℕ) →
-        Writes task.entry (finds_by task.entry by) progress.old progress.new (read.now ++ more) (drop done read.now ++ more)
-        (W.contents writer.old) (W.contents writer.new)) }
-    ensures fault { IfErr result (λ _. (by : SearchesBy task.entry finder.old) (more : List ℕ) →
-        WritesPart task.entry (finds_by task.entry by) progress.old (read.now ++ more) (W.contents writer.old)
-        (W.contents writer.new)) }
-{
-    let len = piece_len(task, read);
-    if len == 0 {
-        return write_first_line(alloc, writer, finder, task, read, progress);
-    }
-    write_piece(alloc, writer, finder, task, read, progress, len)
-}
-
-/// Writes the output for lines of an input as long as these are printed once for each of their matches, and for a first line that is long.
-/// Returns the offset after them. The others are left to other calls.
-fn write_beginning<W: Write>(
-    alloc: Global,
-    writer: &mut W,
-    finder: &mut Finder<'_>,
-    task: Task<'_>,
-    read: &[u8],
-    progress: &mut Progress,
-) -> Result<usize, Fault>
-    requires { Waits task.what.now progress.old.telling.course }
-    ensures same { finder.new ≡ finder.old }
-    ensures waits { OnOk result (Waits task.entry.what.now progress.new.telling.course) }
-    ensures within { IfOk result (λ done. done ≤ length read.now) }
-    ensures writes { IfOk result (λ done. (by : SearchesBy task.entry finder.old) (more : List ℕ) →
-        Writes task.entry (finds_by task.entry by) progress.old progress.new (read.now ++ more) (drop done read.now ++ more)
-        (W.contents writer.old) (W.contents writer.new)) }
-    ensures fault { IfErr result (λ _. (by : SearchesBy task.entry finder.old) (more : List ℕ) →
-        WritesPart task.entry (finds_by task.entry by) progress.old (read.now ++ more) (W.contents writer.old)
-        (W.contents writer.new)) }
-{
-    let mut done = 0usize;
-    for _pieces in 0..read.len() {
-        let next = match write_first(alloc, writer, finder, task, &read[done..], progress) {
-            Ok(next) => next,
-            Err(e) => return Err(e),
-        };
-        if next == 0 {
-            return Ok(done);
-        }
-        done += next;
-    }
-    Ok(done)
-}
-
-/// Removes the first bytes of the buffered input, if there are any to remove.
-fn forget_some(read: &mut LineBuffer, done: usize)
-    requires { done ≤ length read.old }
-    ensures { read.new ≡ drop done read.old }
-{
-    if done > 0 {
-        read.forget(done);
-    }
-}
-
-/// Processes the whole lines of the buffered input, long ones while their matches are searched for. Writes their output, and keeps the
-/// bytes after them. Returns whether nothing more is printed.
-fn report_read<W: Write>(
-    alloc: Global,
-    writer: &mut W,
-    finder: &mut Finder<'_>,
-    task: Task<'_>,
-    read: &mut LineBuffer,
-    progress: &mut Progress,
-) -> Result<bool, Fault>
-    requires { Waits task.what.now progress.old.telling.course }
-    ensures same { finder.new ≡ finder.old }
-    ensures waits { OnOk result (Waits task.entry.what.now progress.new.telling.course) }
-    ensures writes { OnOk result ((by : SearchesBy task.entry finder.old) (more : List ℕ) →
-        Writes task.entry (finds_by task.entry by) progress.old progress.new (read.old ++ more) (read.new ++ more)
-        (W.contents writer.old) (W.contents writer.new)) }
-    ensures over { IfOk result (λ over. IsTrue over → IsOver task.entry progress.new) }
-    ensures fault { IfErr result (λ _. (by : SearchesBy task.entry finder.old) (more : List ℕ) →
-        WritesPart task.entry (finds_by task.entry by) progress.old (read.old ++ more) (W.contents writer.old)
-        (W.contents writer.new)) }
-{
-    let done = match write_beginning(alloc, writer, finder, task, read.bytes(), progress) {
-        Ok(done) => done,
-        Err(e) => return Err(e),
-    };
-    forget_some(read, done);
-    let mut out = Vec::new(alloc);
-    let done = match report_block(alloc, &mut out, finder, task, progress, read.bytes()) {
-        Ok(done) => done,
-        Err(e) => return Err(e),
-    };
-    match write_out(writer, &out) {
-        Ok(()) => {}
-        Err(e) => return Err(e),
-    }
-    read.forget(done);
-    Ok(is_task_over(task, progress))
-}
-
-/// Reads the next block, and processes the lines that end in it.
-fn next_block<R: Read, W: Write>(
-    alloc: Global,
-    reader: &mut R,
-    writer: &mut W,
-    finder: &mut Finder<'_>,
-    task: Task<'_>,
-    read: &mut LineBuffer,
-    progress: &mut Progress,
-) -> Result<Next, Fault>
-    requires waits { Waits task.what.now progress.old.telling.course }
-    ensures same { finder.new ≡ finder.old }
-    ensures waits { OnOk result (Waits task.entry.what.now progress.new.telling.course) }
-    ensures reads { OnOk result ((by : SearchesBy task.entry finder.old) (text : List ℕ) → R.remaining reader.old ≡ Some text →
-        ReadsAndWrites task.entry (finds_by task.entry by) progress.old progress.new read.old read.new text (R.remaining reader.new)
-        (W.contents writer.old) (W.contents writer.new)) }
-    ensures end { result ≡ Ok Next.End → IsAtEnd (R.remaining reader.new) }
-    ensures over { result ≡ Ok Next.Over → IsOver task.entry progress.new }
-    ensures fault { IfErr result (λ _. (by : SearchesBy task.entry finder.old) (text : List ℕ) → R.remaining reader.old ≡ Some text →
-        WritesPart task.entry (finds_by task.entry by) progress.old (read.old ++ text) (W.contents writer.old)
-        (W.contents writer.new)) }
-{
-    let before = read.bytes().len();
-    let taken = match read.read_some(reader) {
-        Ok(taken) => taken,
-        Err(e) => return Err(e),
-    };
-    if taken == 0 {
-        return Ok(Next::End);
-    }
-    if read.bytes().len() > LONGEST {
-        return Err(Fault::TooLong);
-    }
-    if feed_at(&read.bytes()[before..]).is_none() {
-        return Ok(Next::More);
-    }
-    match report_read(alloc, writer, finder, task, read, progress) {
-        Ok(true) => Ok(Next::Over),
-        Ok(false) => Ok(Next::More),
-        Err(e) => Err(e),
-    }
-}
-
-/// Reads blocks until the input ends, or nothing more is printed for it. Returns whether it ended.
-fn report_blocks<R: Read, W: Write>(
-    alloc: Global,
-    reader: &mut R,
-    writer: &mut W,
-    finder: &mut Finder<'_>,
-    task: Task<'_>,
-    read: &mut LineBuffer,
-    progress: &mut Progress,
-) -> Result<bool, Fault>
-    requires waits { Waits task.what.now progress.old.telling.course }
-    ensures same { finder.new ≡ finder.old }
-    ensures waits { OnOk result (Waits task.entry.what.now progress.new.telling.course) }
-    ensures reads { OnOk result ((by : SearchesBy task.entry finder.old) (text : List ℕ) → R.remaining reader.old ≡ Some text →
-        ReadsAndWrites task.entry (finds_by task.entry by) progress.old progress.new read.old read.new text (R.remaining reader.new)
-        (W.contents writer.old) (W.contents writer.new)) }
-    ensures end { IfOk result (λ ended. ended ≡ true → IsAtEnd (R.remaining reader.new)) }
-    ensures over { IfOk result (λ ended. ended ≡ false → IsOver task.entry progress.new) }
-    ensures fault { IfErr result (λ _. (by : SearchesBy task.entry finder.old) (text : List ℕ) → R.remaining reader.old ≡ Some text →
-        WritesPart task.entry (finds_by task.entry by) progress.old (read.old ++ text) (W.contents writer.old)
-        (W.contents writer.new)) }
-{
-    for _blocks in 0..u64::MAX {
-        match next_block(alloc, reader, writer, finder, task, read, progress) {
-            Ok(Next::More) => {}
-            Ok(Next::End) => return Ok(true),
-            Ok(Next::Over) => return Ok(false),
-            Err(e) => return Err(e),
-        }
-    }
-    Err(Fault::TooLong)
-}
-
-/// Processes the last line if no line feed ends it.
-fn report_open_line(
-    alloc: Global,
-    out: &mut Vec<u8>,
-    finder: &mut Finder<'_>,
-    task: Task<'_>,
-    rest: &[u8],
-    progress: &mut Progress,
-) -> Result<(), Fault>
-    requires waits { Waits task.what.now progress.old.telling.course }
-    requires unended { position (λ b. b == 10) rest.now ≡ None }
-    ensures same { finder.new ≡ finder.old }
-    ensures waits { OnOk result (Waits task.entry.what.now progress.new.telling.course) }
-    ensures reported { OnOk result ((by : SearchesBy task.entry finder.old) →
-        out.old.items ++ reported_bytes task.entry (finds_by task.entry by) progress.old (split_lines rest.now) ≡ out.new.items
-        ++ reported_bytes task.entry (finds_by task.entry by) progress.new []) }
-    ensures counts { OnOk result ((by : SearchesBy task.entry finder.old) →
-        counts_lines task.entry (finds_by task.entry by) progress.new []
-        ≡ counts_lines task.entry (finds_by task.entry by) progress.old (split_lines rest.now)) }
-{
-    if rest.is_empty() {
-        return Ok(());
-    }
-    match report_one(alloc, out, finder, task, progress, rest, false, false) {
-        Ok(()) => Ok(()),
-        Err(e) => Err(e),
-    }
-}
-
-/// Processes all that is left of an input that has ended.
-fn report_tail(
-    alloc: Global,
-    out: &mut Vec<u8>,
-    finder: &mut Finder<'_>,
-    task: Task<'_>,
-    read: &[u8],
-    progress: &mut Progress,
-) -> Result<(), Fault>
-    requires { Waits task.what.now progress.old.telling.course }
-    ensures same { finder.new ≡ finder.old }
-    ensures reported { OnOk result ((by : SearchesBy task.entry finder.old) →
-        out.old.items ++ reported_bytes task.entry (finds_by task.entry by) progress.old (split_lines read.now) ≡ out.new.items) }
-    ensures counts { OnOk result ((by : SearchesBy task.entry finder.old) →
-        counts_lines task.entry (finds_by task.entry by) progress.new []
-        ≡ counts_lines task.entry (finds_by task.entry by) progress.old (split_lines read.now)) }
-{
-    let done = match report_block(alloc, out, finder, task, progress, read) {
-        Ok(done) => done,
-        Err(e) => return Err(e),
-    };
-    match report_open_line(alloc, out, finder, task, &read[done..], progress) {
-        Ok(()) => {}
-        Err(e) => return Err(e),
-    }
-    match report_end(
-        alloc,
-        out,
-        task.what,
-        task.name,
-        task.with_name,
-        &progress.telling,
-    ) {
-        Ok(()) => Ok(()),
-        Err(_) => Err(Fault::NoMemory),
-    }
-}
-
-/// Processes all that is left of an input that has ended, and writes the output.
-fn write_lines<W: Write>(
-    alloc: Global,
-    writer: &mut W,
-    finder: &mut Finder<'_>,
-    task: Task<'_>,
-    read: &[u8],
-    progress: &mut Progress,
-) -> Result<(), Fault>
-    requires { Waits task.what.now progress.old.telling.course }
-    ensures same { finder.new ≡ finder.old }
-    ensures written { OnOk result ((by : SearchesBy task.entry finder.old) →
-        Appends (W.contents writer.old) (W.contents writer.new)
-        (reported_bytes task.entry (finds_by task.entry by) progress.old (split_lines read.now))) }
-    ensures counts { OnOk result ((by : SearchesBy task.entry finder.old) →
-        counts_lines task.entry (finds_by task.entry by) progress.new []
-        ≡ counts_lines task.entry (finds_by task.entry by) progress.old (split_lines read.now)) }
-    ensures fault { IfErr result (λ _. (by : SearchesBy task.entry finder.old) →
-        WritesPart task.entry (finds_by task.entry by) progress.old read.now (W.contents writer.old) (W.contents writer.new)) }
-{
-    let mut out = Vec::new(alloc);
-    match report_tail(alloc, &mut out, finder, task, read, progress) {
-        Ok(()) => {}
-        Err(e) => return Err(e),
-    }
-    match write_out(writer, &out) {
-        Ok(()) => Ok(()),
-        Err(e) => Err(e),
-    }
-}
-
-/// Writes what is printed after all lines.
-pub fn write_end<W: Write>(
-    alloc: Global,
-    writer: &mut W,
-    task: Task<'_>,
-    progress: &Progress,
-) -> Result<(), Fault>
-    requires { Waits task.what.now progress.now.telling.course }
-    ensures written { OnOk result ((f : LineMatcher) → Appends (W.contents writer.old) (W.contents writer.new)
-        (reported_bytes task.entry f progress.now [])) }
-    ensures fault { IfErr result (λ _. (f : LineMatcher) → (n : ℕ) × Appends (W.contents writer.old) (W.contents writer.new)
-        (take n (reported_bytes task.entry f progress.now []))) }
-{
-    let mut out = Vec::new(alloc);
-    match report_end(
-        alloc,
-        &mut out,
-        task.what,
-        task.name,
-        task.with_name,
-        &progress.telling,
-    ) {
-        Ok(()) => {}
-        Err(_) => return Err(Fault::NoMemory),
-    }
-    match write_out(writer, &out) {
-        Ok(()) => Ok(()),
-        Err(e) => Err(e),
-    }
-}
-
-/// Whether an input that has ended is one long line without a line feed whose matches may be printed.
-fn is_long_line(task: Task<'_>, read: &[u8]) -> bool
-    ensures open { IsTrue result → position (λ b. b == 10) read.now ≡ None }
-    ensures some { IsTrue result → 0 < length read.now }
-{
-    begins_long(task, read) && feed_at(read).is_none()
-}
-
-/// Writes the output for a last line that no line feed ends, while its matches are searched for, and what is printed after it.
-fn write_last_line<W: Write>(
-    alloc: Global,
-    writer: &mut W,
-    finder: &mut Finder<'_>,
-    task: Task<'_>,
-    read: &[u8],
-    progress: &mut Progress,
-) -> Result<(), Fault>
-    requires waits { Waits task.what.now progress.old.telling.course }
-    requires open { position (λ b. b == 10) read.now ≡ None }
-    requires some { 0 < length read.now }
-    ensures same { finder.new ≡ finder.old }
-    ensures written { OnOk result ((by : SearchesBy task.entry finder.old) →
-        Appends (W.contents writer.old) (W.contents writer.new)
-        (reported_bytes task.entry (finds_by task.entry by) progress.old (split_lines read.now))) }
-    ensures counts { OnOk result ((by : SearchesBy task.entry finder.old) →
-        counts_lines task.entry (finds_by task.entry by) progress.new []
-        ≡ counts_lines task.entry (finds_by task.entry by) progress.old (split_lines read.now)) }
-    ensures fault { IfErr result (λ _. (by : SearchesBy task.entry finder.old) →
-        WritesPart task.entry (finds_by task.entry by) progress.old read.now (W.contents writer.old) (W.contents writer.new)) }
-{
-    match write_line(alloc, writer, finder, task, progress, read, false) {
-        Ok(()) => {}
-        Err(e) => return Err(e),
-    }
-    match write_end(alloc, writer, task, progress) {
-        Ok(()) => Ok(()),
-        Err(e) => Err(e),
-    }
-}
-
-/// Processes all that is left of an input that has ended, and writes the output, for a long line while its matches are searched for.
-fn write_tail<W: Write>(
-    alloc: Global,
-    writer: &mut W,
-    finder: &mut Finder<'_>,
-    task: Task<'_>,
-    read: &[u8],
-    progress: &mut Progress,
-) -> Result<(), Fault>
-    requires { Waits task.what.now progress.old.telling.course }
-    ensures same { finder.new ≡ finder.old }
-    ensures written { OnOk result ((by : SearchesBy task.entry finder.old) →
-        Appends (W.contents writer.old) (W.contents writer.new)
-        (reported_bytes task.entry (finds_by task.entry by) progress.old (split_lines read.now))) }
-    ensures counts { OnOk result ((by : SearchesBy task.entry finder.old) →
-        counts_lines task.entry (finds_by task.entry by) progress.new []
-        ≡ counts_lines task.entry (finds_by task.entry by) progress.old (split_lines read.now)) }
-    ensures fault { IfErr result (λ _. (by : SearchesBy task.entry finder.old) →
-        WritesPart task.entry (finds_by task.entry by) progress.old read.now (W.contents writer.old) (W.contents writer.new)) }
-{
-    if is_long_line(task, read) {
-        return match write_last_line(alloc, writer, finder, task, read, progress) {
-            Ok(()) => Ok(()),
-            Err(e) => Err(e),
-        };
-    }
-    match write_lines(alloc, writer, finder, task, read, progress) {
-        Ok(()) => Ok(()),
-        Err(e) => Err(e),
-    }
-}
-
-/// Writes the rest of the output for an input that has ended, or for which nothing more is printed.
-fn write_rest<W: Write>(
-    alloc: Global,
-    writer: &mut W,
-    finder: &mut Finder<'_>,
-    task: Task<'_>,
-    ended: bool,
-    read: &[u8],
-    progress: &mut Progress,
-) -> Result<(), Fault>
-    requires waits { Waits task.what.now progress.old.telling.course }
-    requires over { ended ≡ false → IsOver task progress.old }
-    ensures same { finder.new ≡ finder.old }
-    ensures written { OnOk result ((by : SearchesBy task.entry finder.old) (more : List ℕ) → (ended ≡ true → more ≡ []) →
-        Appends (W.contents writer.old) (W.contents writer.new)
-        (reported_bytes task.entry (finds_by task.entry by) progress.old (split_lines (read.now ++ more)))) }
-    ensures counts { OnOk result ((by : SearchesBy task.entry finder.old) (more : List ℕ) → (ended ≡ true → more ≡ []) →
-        counted_as task.entry.what.now.print (counts_lines task.entry (finds_by task.entry by) progress.new [])
-        ≡ counted_as task.entry.what.now.print (counts_lines task.entry (finds_by task.entry by) progress.old
-        (split_lines (read.now ++ more)))) }
-    ensures fault { IfErr result (λ _. (by : SearchesBy task.entry finder.old) (more : List ℕ) → (ended ≡ true → more ≡ []) →
-        WritesPart task.entry (finds_by task.entry by) progress.old (read.now ++ more) (W.contents writer.old) (W.contents writer.new)) }
-{
-    if ended {
-        return match write_tail(alloc, writer, finder, task, read, progress) {
-            Ok(()) => Ok(()),
-            Err(e) => Err(e),
-        };
-    }
-    match write_end(alloc, writer, task, progress) {
-        Ok(()) => Ok(()),
-        Err(e) => Err(e),
-    }
-}
-
-/// Writes the rest of the output, and flushes the writer.
-fn finish<W: Write>(
-    alloc: Global,
-    writer: &mut W,
-    finder: &mut Finder<'_>,
-    task: Task<'_>,
-    ended: bool,
-    read: &[u8],
-    progress: &mut Progress,
-) -> Result<(), Fault>
-    requires waits { Waits task.what.now progress.old.telling.course }
-    requires over { ended ≡ false → IsOver task progress.old }
-    ensures same { finder.new ≡ finder.old }
-    ensures written { OnOk result ((by : SearchesBy task.entry finder.old) (more : List ℕ) → (ended ≡ true → more ≡ []) →
-        Appends (W.contents writer.old) (W.contents writer.new)
-        (reported_bytes task.entry (finds_by task.entry by) progress.old (split_lines (read.now ++ more)))) }
-    ensures counts { OnOk result ((by : SearchesBy task.entry finder.old) (more : List ℕ) → (ended ≡ true → more ≡ []) →
-        counted_as task.entry.what.now.print (counts_lines task.entry (finds_by task.entry by) progress.new [])
-        ≡ counted_as task.entry.what.now.print (counts_lines task.entry (finds_by task.entry by) progress.old
-        (split_lines (read.now ++ more)))) }
-    ensures fault { IfErr result (λ _. (by : SearchesBy task.entry finder.old) (more : List ℕ) → (ended ≡ true → more ≡ []) →
-        WritesPart task.entry (finds_by task.entry by) progress.old (read.now ++ more) (W.contents writer.old) (W.contents writer.new)) }
-{
-    match write_rest(alloc, writer, finder, task, ended, read, progress) {
-        Ok(()) => {}
-        Err(e) => return Err(e),
-    }
-    match flush(writer) {
-        Ok(()) => Ok(()),
-        Err(e) => Err(e),
-    }
-}
-
-/// How many selected lines are counted after the last line.
-pub fn count_of(print: Print, progress: &Progress) -> u64
-    ensures { (t : TheTask) → (f : LineMatcher) → result ≡ counted_as print (counts_lines t f progress.now []) }
-{
-    counted_as(print, progress.telling.count)
-}
-
-/// Gives the room of a buffer back to the finder, for the next input.
-fn give_back(alloc: Global, finder: &mut Finder<'_>, mut read: LineBuffer)
-    ensures { finder.new ≡ finder.old }
-{
-    let reads = read.reads();
-    finder.keep_room(read.take_room(alloc), reads);
-}
 
 /// Reads an input line by line, and writes what is printed for it. Returns the number of selected lines. If names of inputs are asked for,
 /// or nothing, the number is at most 1. Then reading stops as soon as it is known whether a line is selected.
@@ -702,4 +100,352 @@ pub fn report_input<R: Read, W: Write>(
         }
         Err(e) => Err(e),
     }
+}
+
+/// Reads blocks until the input ends, or nothing more is printed for it, and writes the output for the lines that end in each, for long ones
+/// while their matches are searched for. Returns whether the input ended. The bytes after its last line feed are left.
+fn report_blocks<R: Read, W: Write>(
+    alloc: Global,
+    reader: &mut R,
+    writer: &mut W,
+    finder: &mut Finder<'_>,
+    task: Task<'_>,
+    read: &mut LineBuffer,
+    progress: &mut Progress,
+) -> Result<bool, Fault>
+    requires waits { Waits task.what.now progress.old.telling.course }
+    requires open { position (λ b. b == 10) read.old ≡ None }
+    ensures same { finder.new ≡ finder.old }
+    ensures waits { OnOk result (Waits task.entry.what.now progress.new.telling.course) }
+    ensures open { IfOk result (λ _. position (λ b. b == 10) read.new ≡ None) }
+    ensures reads { OnOk result ((by : SearchesBy task.entry finder.old) (text : List ℕ) → R.remaining reader.old ≡ Some text →
+        ReadsAndWrites task.entry (finds_by task.entry by) progress.old progress.new read.old read.new text (R.remaining reader.new)
+        (W.contents writer.old) (W.contents writer.new)) }
+    ensures end { IfOk result (λ ended. ended ≡ true → IsAtEnd (R.remaining reader.new)) }
+    ensures over { IfOk result (λ ended. ended ≡ false → IsOver task.entry progress.new) }
+    ensures fault { IfErr result (λ _. (by : SearchesBy task.entry finder.old) (text : List ℕ) → R.remaining reader.old ≡ Some text →
+        WritesPart task.entry (finds_by task.entry by) progress.old (read.old ++ text) (W.contents writer.old)
+        (W.contents writer.new)) }
+{
+    for _blocks in 0..u64::MAX {
+        let before = read.bytes().len();
+        let taken = match read.read_some(reader) {
+            Ok(taken) => taken,
+            Err(e) => return Err(e),
+        };
+        if taken == 0 {
+            return Ok(true);
+        }
+        let bytes = read.bytes();
+        if bytes.len() > LONGEST {
+            return Err(Fault::TooLong);
+        }
+        match feed_at(&bytes[before..]) {
+            Some(_) => {}
+            None => continue,
+        }
+        let first = match write_beginning(alloc, writer, finder, task, bytes, progress) {
+            Ok(first) => first,
+            Err(e) => return Err(e),
+        };
+        let lines = &bytes[first..];
+        let mut out = Vec::new(alloc);
+        let done = match report_block(alloc, &mut out, finder, task, progress, lines) {
+            Ok(done) => done,
+            Err(e) => return Err(e),
+        };
+        match write_out(writer, &out) {
+            Ok(()) => {}
+            Err(e) => return Err(e),
+        }
+        read.forget(first + done);
+        if is_task_over(task, progress) {
+            return Ok(false);
+        }
+    }
+    Err(Fault::TooLong)
+}
+
+/// Writes the output for lines of an input as long as these are printed once for each of their matches, and for a first line that is long.
+/// Returns the offset after them. The others are left to other calls.
+fn write_beginning<W: Write>(
+    alloc: Global,
+    writer: &mut W,
+    finder: &mut Finder<'_>,
+    task: Task<'_>,
+    read: &[u8],
+    progress: &mut Progress,
+) -> Result<usize, Fault>
+    requires { Waits task.what.now progress.old.telling.course }
+    ensures same { finder.new ≡ finder.old }
+    ensures waits { OnOk result (Waits task.entry.what.now progress.new.telling.course) }
+    ensures within { IfOk result (λ done. done ≤ length read.now) }
+    ensures writes { IfOk result (λ done. (by : SearchesBy task.entry finder.old) (more : List ℕ) →
+        Writes task.entry (finds_by task.entry by) progress.old progress.new (read.now ++ more) (drop done read.now ++ more)
+        (W.contents writer.old) (W.contents writer.new)) }
+    ensures fault { IfErr result (λ _. (by : SearchesBy task.entry finder.old) (more : List ℕ) →
+        WritesPart task.entry (finds_by task.entry by) progress.old (read.now ++ more) (W.contents writer.old)
+        (W.contents writer.new)) }
+{
+    let mut done = 0usize;
+    for _pieces in 0..read.len() {
+        let next = match write_first(alloc, writer, finder, task, &read[done..], progress) {
+            Ok(next) => next,
+            Err(e) => return Err(e),
+        };
+        if next == 0 {
+            return Ok(done);
+        }
+        done += next;
+    }
+    Ok(done)
+}
+
+/// Writes the output for the first lines of an input, or for one long line, if its matches may be printed while they are searched for. Returns
+/// the offset after them, or 0 if they are left to other calls.
+fn write_first<W: Write>(
+    alloc: Global,
+    writer: &mut W,
+    finder: &mut Finder<'_>,
+    task: Task<'_>,
+    read: &[u8],
+    progress: &mut Progress,
+) -> Result<usize, Fault>
+    requires { Waits task.what.now progress.old.telling.course }
+    ensures same { finder.new ≡ finder.old }
+    ensures waits { OnOk result (Waits task.entry.what.now progress.new.telling.course) }
+    ensures within { IfOk result (λ done. done ≤ length read.now) }
+    ensures writes { IfOk result (λ done. (by : SearchesBy task.entry finder.old) (more : List ℕ) →
+        Writes task.entry (finds_by task.entry by) progress.old progress.new (read.now ++ more) (drop done read.now ++ more)
+        (W.contents writer.old) (W.contents writer.new)) }
+    ensures fault { IfErr result (λ _. (by : SearchesBy task.entry finder.old) (more : List ℕ) →
+        WritesPart task.entry (finds_by task.entry by) progress.old (read.now ++ more) (W.contents writer.old)
+        (W.contents writer.new)) }
+{
+    let piece = piece_len(task, read);
+    if piece > 0 {
+        return write_piece(alloc, writer, finder, task, read, progress, piece);
+    }
+    if !begins_long(task, read) {
+        return Ok(0);
+    }
+    let Some(len) = feed_at(read) else {
+        return Ok(0);
+    };
+    match write_line(alloc, writer, finder, task, progress, &read[..len], true) {
+        Ok(()) => {}
+        Err(e) => return Err(e),
+    }
+    Ok(len + 1)
+}
+
+/// The length of the whole lines among the first bytes of an input, if lines are printed once for each of their matches, and else 0.
+fn piece_len(task: Task<'_>, read: &[u8]) -> usize
+    ensures { result ≤ length read.now }
+{
+    if !prints_each(task.what) {
+        return 0;
+    }
+    line_start(read, 0, PIECE)
+}
+
+/// Writes the output for the whole lines among the first bytes of an input. Returns how many bytes they have.
+fn write_piece<W: Write>(
+    alloc: Global,
+    writer: &mut W,
+    finder: &mut Finder<'_>,
+    task: Task<'_>,
+    read: &[u8],
+    progress: &mut Progress,
+    len: usize,
+) -> Result<usize, Fault>
+    requires waits { Waits task.what.now progress.old.telling.course }
+    requires within { len ≤ length read.now }
+    ensures same { finder.new ≡ finder.old }
+    ensures waits { OnOk result (Waits task.entry.what.now progress.new.telling.course) }
+    ensures within { IfOk result (λ done. done ≤ length read.now) }
+    ensures writes { IfOk result (λ done. (by : SearchesBy task.entry finder.old) (more : List ℕ) →
+        Writes task.entry (finds_by task.entry by) progress.old progress.new (read.now ++ more) (drop done read.now ++ more)
+        (W.contents writer.old) (W.contents writer.new)) }
+    ensures fault { IfErr result (λ _. (by : SearchesBy task.entry finder.old) (more : List ℕ) →
+        WritesPart task.entry (finds_by task.entry by) progress.old (read.now ++ more) (W.contents writer.old)
+        (W.contents writer.new)) }
+{
+    let mut out = Vec::new(alloc);
+    let done = match report_block(alloc, &mut out, finder, task, progress, &read[..len]) {
+        Ok(done) => done,
+        Err(e) => return Err(e),
+    };
+    match write_out(writer, &out) {
+        Ok(()) => Ok(done),
+        Err(e) => Err(e),
+    }
+}
+
+/// Whether an input is so long that the matches of its first line are printed one after the other, if they are printed alone or the line is
+/// printed for each.
+fn begins_long(task: Task<'_>, read: &[u8]) -> bool
+    ensures { IsTrue result → 0 < length read.now }
+{
+    if prints_each(task.what) {
+        return read.len() >= PIECE;
+    }
+    read.len() >= LONG && prints_matches(task.what)
+}
+
+/// Whether nothing is printed for the next lines, whatever they are.
+pub fn is_task_over(task: Task<'_>, progress: &Progress) -> bool
+    ensures { IsTrue result → IsOver task.entry progress.now }
+{
+    is_over(task.what, &progress.telling)
+}
+
+/// Writes the rest of the output, and flushes the writer.
+fn finish<W: Write>(
+    alloc: Global,
+    writer: &mut W,
+    finder: &mut Finder<'_>,
+    task: Task<'_>,
+    ended: bool,
+    read: &[u8],
+    progress: &mut Progress,
+) -> Result<(), Fault>
+    requires waits { Waits task.what.now progress.old.telling.course }
+    requires open { position (λ b. b == 10) read.now ≡ None }
+    requires over { ended ≡ false → IsOver task progress.old }
+    ensures same { finder.new ≡ finder.old }
+    ensures written { OnOk result ((by : SearchesBy task.entry finder.old) (more : List ℕ) → (ended ≡ true → more ≡ []) →
+        Appends (W.contents writer.old) (W.contents writer.new)
+        (reported_bytes task.entry (finds_by task.entry by) progress.old (split_lines (read.now ++ more)))) }
+    ensures counts { OnOk result ((by : SearchesBy task.entry finder.old) (more : List ℕ) → (ended ≡ true → more ≡ []) →
+        counted_as task.entry.what.now.print (counts_lines task.entry (finds_by task.entry by) progress.new [])
+        ≡ counted_as task.entry.what.now.print (counts_lines task.entry (finds_by task.entry by) progress.old
+        (split_lines (read.now ++ more)))) }
+    ensures fault { IfErr result (λ _. (by : SearchesBy task.entry finder.old) (more : List ℕ) → (ended ≡ true → more ≡ []) →
+        WritesPart task.entry (finds_by task.entry by) progress.old (read.now ++ more) (W.contents writer.old) (W.contents writer.new)) }
+{
+    match write_open_line(alloc, writer, finder, task, ended, read, progress) {
+        Ok(()) => {}
+        Err(e) => return Err(e),
+    }
+    match write_end(alloc, writer, task, progress) {
+        Ok(()) => {}
+        Err(e) => return Err(e),
+    }
+    match flush(writer) {
+        Ok(()) => Ok(()),
+        Err(e) => Err(e),
+    }
+}
+
+/// Writes the output for the last line of an input, if the input has ended and no line feed ends that line. A long line is written while its
+/// matches are searched for.
+fn write_open_line<W: Write>(
+    alloc: Global,
+    writer: &mut W,
+    finder: &mut Finder<'_>,
+    task: Task<'_>,
+    ended: bool,
+    read: &[u8],
+    progress: &mut Progress,
+) -> Result<(), Fault>
+    requires waits { Waits task.what.now progress.old.telling.course }
+    requires open { position (λ b. b == 10) read.now ≡ None }
+    requires over { ended ≡ false → IsOver task progress.old }
+    ensures same { finder.new ≡ finder.old }
+    ensures waits { OnOk result (Waits task.entry.what.now progress.new.telling.course) }
+    ensures writes { OnOk result ((by : SearchesBy task.entry finder.old) (more : List ℕ) → (ended ≡ true → more ≡ []) →
+        WritesLast task.entry (finds_by task.entry by) progress.old progress.new (read.now ++ more) (W.contents writer.old)
+        (W.contents writer.new)) }
+    ensures fault { IfErr result (λ _. (by : SearchesBy task.entry finder.old) (more : List ℕ) → (ended ≡ true → more ≡ []) →
+        WritesPart task.entry (finds_by task.entry by) progress.old (read.now ++ more) (W.contents writer.old) (W.contents writer.new)) }
+{
+    if !ended {
+        return Ok(());
+    }
+    if read.is_empty() {
+        return Ok(());
+    }
+    if begins_long(task, read) {
+        return match write_line(alloc, writer, finder, task, progress, read, false) {
+            Ok(()) => Ok(()),
+            Err(e) => Err(e),
+        };
+    }
+    match write_listed(alloc, writer, finder, task, progress, read, false, false) {
+        Ok(()) => Ok(()),
+        Err(e) => Err(e),
+    }
+}
+
+/// Writes what is printed after all lines.
+pub fn write_end<W: Write>(
+    alloc: Global,
+    writer: &mut W,
+    task: Task<'_>,
+    progress: &Progress,
+) -> Result<(), Fault>
+    requires { Waits task.what.now progress.now.telling.course }
+    ensures written { OnOk result ((f : LineMatcher) → Appends (W.contents writer.old) (W.contents writer.new)
+        (reported_bytes task.entry f progress.now [])) }
+    ensures fault { IfErr result (λ _. (f : LineMatcher) → (n : ℕ) × Appends (W.contents writer.old) (W.contents writer.new)
+        (take n (reported_bytes task.entry f progress.now []))) }
+{
+    let mut out = Vec::new(alloc);
+    match report_end(
+        alloc,
+        &mut out,
+        task.what,
+        task.name,
+        task.with_name,
+        &progress.telling,
+    ) {
+        Ok(()) => {}
+        Err(_) => return Err(Fault::NoMemory),
+    }
+    match write_out(writer, &out) {
+        Ok(()) => Ok(()),
+        Err(e) => Err(e),
+    }
+}
+
+/// Writes all bytes. On an error, the bytes that were written are a prefix of them.
+pub fn write_out<W: Write>(writer: &mut W, out: &[u8]) -> Result<(), Fault>
+    ensures ok { OnOk result (Appends (W.contents writer.old) (W.contents writer.new) out.now) }
+    ensures part { IfErr result (λ _. (n : ℕ) × Appends (W.contents writer.old) (W.contents writer.new) (take n out.now)) }
+{
+    let mut done = 0usize;
+    while done < out.len() {
+        match writer.write(&out[done..]) {
+            Ok(0) => return Err(Fault::Write(ErrorKind::WriteZero)),
+            Ok(n) => done += n,
+            Err(e) => return Err(Fault::Write(e.kind())),
+        }
+    }
+    Ok(())
+}
+
+/// Flushes the writer.
+pub fn flush<W: Write>(writer: &mut W) -> Result<(), Fault>
+    ensures { Keeps (W.contents writer.old) (W.contents writer.new) }
+{
+    match writer.flush() {
+        Ok(()) => Ok(()),
+        Err(e) => Err(Fault::Write(e.kind())),
+    }
+}
+
+/// How many selected lines are counted after the last line.
+pub fn count_of(print: Print, progress: &Progress) -> u64
+    ensures { (t : TheTask) → (f : LineMatcher) → result ≡ counted_as print (counts_lines t f progress.now []) }
+{
+    counted_as(print, progress.telling.count)
+}
+
+/// Gives the room of a buffer back to the finder, for the next input.
+fn give_back(alloc: Global, finder: &mut Finder<'_>, mut read: LineBuffer)
+    ensures { finder.new ≡ finder.old }
+{
+    let reads = read.reads();
+    finder.keep_room(read.take_room(alloc), reads);
 }

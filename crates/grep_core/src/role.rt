@@ -1,5 +1,5 @@
 /// The part that a line has in the output.
-#[derive(Clone, Copy, Debug, PartialEq, Eq)]
+#[derive(Clone, Copy)]
 pub enum Role {
     /// It is selected, and printed.
     Selected,

@@ -1,5 +1,5 @@
 /// What is known of the lines before one.
-#[derive(Clone, Copy, Debug, PartialEq, Eq)]
+#[derive(Clone, Copy)]
 pub enum SeparatorState {
     /// None of them was printed.
     NonePrinted,

@@ -1,6 +1,6 @@
 -- A text with escapes, byte by byte.
-use Rattle.std.proofs.Common.{◌≡◌, ℕ, suc, ◌+◌, ◌<◌, List, [], ◌∷◌, ◌++◌, length, drop, get_or, sym, ap, ◌∙◌, arith, drop-cons}
-use Rattle.grep_options.specs.Escapes.{unescaped_from, unread}
+use Rattle.std.proofs.Common.{◌≡◌, ℕ, suc, ◌+◌, ◌<◌, List, ◌∷◌, ◌++◌, length, drop, get_or, sym, ap, ◌∙◌, arith, drop-cons}
+use Rattle.grep_options.specs.Escapes.{unescaped_from}
 use Rattle.grep_options.specs.declared.escapes.Escape.{Escape}
 
 one_byte : (text now new all : List ℕ) (e next : Escape) (i : ℕ) → i < length text →

@@ -1,5 +1,5 @@
 -- Options that are added in turn.
-use Rattle.std.proofs.Common.{◌≡◌, ◌∙◌, ℕ, Bool, true, false, List, ◌++◌, ◌∷◌, [], ◌||◌}
+use Rattle.std.proofs.Common.{◌≡◌, ◌∙◌, ℕ, zero, suc, Bool, true, false, List, ◌++◌, ◌∷◌, [], ◌||◌}
 use Rattle.std.proofs.Common.{ap, append_assoc, map, refl, sym, slice_get, unwrap_or}
 use Rattle.std.proofs.lemmas.List.{append-nil, append_cancel_left, map-append}
 use Rattle.std.specs.List.{list_any}
@@ -8,7 +8,8 @@ use Rattle.clap.specs.Adds.{AddsAliases, AddsConflicts, AddsOverrides, AddsShort
 use Rattle.clap.specs.Words.{AddsArg, AddsInTurn, App, Rule, args_of, rule_of}
 use Rattle.clap.specs.declared.builder.arg.Arg.{Arg}
 use Rattle.clap.specs.declared.builder.command.Command.{Command}
-use Rattle.grep_options.specs.CommandLine.{AddsOptions, OptionRow, excluding, letter_of, options, option_row, option_rows, turning_off}
+use Rattle.grep_options.specs.CommandLine.{AddsOptions, OptionRow, letter_of, options, option_row, option_rows}
+use Rattle.grep_options.specs.Rows.{letter_or, related, texts_in}
 
 ap₄ : {A B C D E : Type 0} (f : A → B → C → D → E) {a b : A} {x y : B} {u v : C} {m n : D} → a ≡ b → x ≡ y → u ≡ v → m ≡ n
     → f a x u m ≡ f b y v n
@@ -22,35 +23,42 @@ either_false true b e = cc
 pub joined : {a b c : List Arg} {xs ys : List OptionRow} → AddsOptions a b xs → AddsOptions b c ys → AddsOptions a c (xs ++ ys)
 joined {a = a} {xs = xs} {ys = ys} p q = record { added = q.added ∙ (ap (λ m. m ++ ys) p.added ∙ append_assoc (option_rows a) xs ys) }
 
--- one option, by an equation of its row
-pub adds_as : {a b : List Arg} {x y : OptionRow} → AddsOptions a b (x ∷ []) → x ≡ y → AddsOptions a b (y ∷ [])
-adds_as {a = a} p e = record { added = p.added ∙ ap (λ r. option_rows a ++ r ∷ []) e }
+-- the same options, by an equation of their rows
+pub adds_as : {a b : List Arg} {xs ys : List OptionRow} → AddsOptions a b xs → xs ≡ ys → AddsOptions a b ys
+adds_as {a = a} p e = record { added = p.added ∙ ap (λ rs. option_rows a ++ rs) e }
 
--- one more option that is turned off
-pub row_over : (old new : Arg) (x : Bor (List ℕ)) → AddsOverrides old new (x ∷ []) → option_row new ≡ turning_off (option_row old) x.now
-row_over old new x (e, f) =
-    let names = ap (map (λ s. s.now)) f ∙ map-append (λ s. s.now) old.overrides.items (x ∷ []) in
-    ap option_row e ∙ ap (λ ns. record (option_row old) { turns_off = ns }) names
+letter_given : (c : ℕ) → (c ≡ 0 → ⊥) → letter_or [] c ≡ c ∷ []
+letter_given zero given = absurd (given refl)
+letter_given (suc c) given = refl
 
--- one more option with which this one is an error
-pub row_excluding : (old new : Arg) (x : Bor (List ℕ)) → AddsConflicts old new (x ∷ []) → option_row new ≡ excluding (option_row old) x.now
-row_excluding old new x (e, f) =
-    let names = ap (map (λ s. s.now)) f ∙ map-append (λ s. s.now) old.conflicts.items (x ∷ []) in
-    ap option_row e ∙ ap (λ ns. record (option_row old) { excludes = ns }) names
+-- one more letter, which isn't zero
+pub row_lettered : (old new : Arg) (c : ℕ) → (c ≡ 0 → ⊥) → AddsShortAliases old new ((c, false) ∷ []) → option_row new
+    ≡ record (option_row old) { other_letters = (option_row old).other_letters ++ letter_or [] c }
+row_lettered old new c given (e, f) =
+    let letters = ap (map (λ a. a.0)) f ∙ map-append (λ a. a.0) old.short_aliases.items ((c, false) ∷ []) in
+    let all = letters ∙ ap (λ ls. map (λ a. a.0) old.short_aliases.items ++ ls) (sym (letter_given c given)) in
+    ap option_row e ∙ ap (λ ls. record (option_row old) { other_letters = ls }) all
 
--- one more letter
-pub row_lettered : (old new : Arg) (x : ℕ × Bool) → AddsShortAliases old new (x ∷ []) → option_row new
-    ≡ record (option_row old) { other_letters = (option_row old).other_letters ++ x.0 ∷ [] }
-row_lettered old new x (e, f) =
-    let letters = ap (map (λ a. a.0)) f ∙ map-append (λ a. a.0) old.short_aliases.items (x ∷ []) in
-    ap option_row e ∙ ap (λ ls. record (option_row old) { other_letters = ls }) letters
+abbrev hidden_name : Bor (List ℕ) → Bor (List ℕ) × Bool
+hidden_name n = (n, false)
 
--- one more name
-pub row_named : (old new : Arg) (x : Bor (List ℕ) × Bool) → AddsAliases old new (x ∷ []) → option_row new
-    ≡ record (option_row old) { aliases = (option_row old).aliases ++ x.0.now ∷ [] }
-row_named old new x (e, f) =
-    let names = ap (map (λ a. a.0.now)) f ∙ map-append (λ a. a.0.now) old.aliases.items (x ∷ []) in
-    ap option_row e ∙ ap (λ ns. record (option_row old) { aliases = ns }) names
+abbrev name_in : Bor (List ℕ) × Bool → List ℕ
+name_in a = a.0.now
+
+names_in : (names : List (Bor (List ℕ))) → map name_in (map hidden_name names) ≡ texts_in names
+names_in [] = refl
+names_in (n ∷ ns) = ap (λ xs. n.now ∷ xs) (names_in ns)
+
+-- more names, more options that it turns off, and more with which it is an error
+pub row_related : (old a b new : Arg) (names over without : List (Bor (List ℕ))) → AddsAliases old a (map hidden_name names)
+    → AddsOverrides a b over → AddsConflicts b new without → option_row new ≡ related (option_row old) names over without
+row_related old a b new names over without (e, f) (g, h) (i, j) =
+    let named = ap (map name_in) f ∙ (map-append name_in old.aliases.items (map hidden_name names) ∙ ap (λ (xs : List (List ℕ)). (option_row old).aliases ++ xs) (names_in names)) in
+    let first = ap option_row e ∙ ap (λ xs. record (option_row old) { aliases = xs }) named in
+    let off = ap texts_in h ∙ map-append (λ s. s.now) a.overrides.items over in
+    let second = ap option_row g ∙ (ap (λ xs. record (option_row a) { turns_off = xs }) off ∙ ap (λ (r : OptionRow). record r { turns_off = r.turns_off ++ texts_in over }) first) in
+    let excluded = ap texts_in j ∙ map-append (λ s. s.now) b.conflicts.items without in
+    ap option_row i ∙ (ap (λ xs. record (option_row b) { excludes = xs }) excluded ∙ ap (λ (r : OptionRow). record r { excludes = r.excludes ++ texts_in without }) second)
 
 -- ---- the options of a command
 

@@ -72,10 +72,6 @@ flag name letter = option name letter SetTrue
 abbrev pub flag_over : List ℕ → List ℕ → List ℕ → OptionRow
 flag_over name letter other = record (flag name letter) { turns_off = other ∷ [] }
 
--- an option that turns off one more
-abbrev pub turning_off : OptionRow → List ℕ → OptionRow
-turning_off row other = record row { turns_off = row.turns_off ++ other ∷ [] }
-
 abbrev pub list_options : List OptionRow
 list_options =
     option (codes "regexp") (codes "e") Append
@@ -289,14 +285,18 @@ heading_options =
     ∷ flag (codes "pretty") (codes "p")
     ∷ []
 
--- the format of what is printed
-abbrev pub format_options : List OptionRow
-format_options =
+-- what stands between names, numbers, lines and groups of lines
+abbrev pub spacing_options : List OptionRow
+spacing_options =
     flag (codes "null") (codes "Z")
     ∷ flag (codes "initial-tab") (codes "T")
     ∷ given_separator
     ∷ no_separator
-    ∷ (line_options ++ (separator_options ++ heading_options))
+    ∷ []
+
+-- the format of what is printed
+abbrev pub format_options : List OptionRow
+format_options = spacing_options ++ (line_options ++ (separator_options ++ heading_options))
 
 -- Which files with zero bytes are text. Of these three the last one takes effect. The last of them has no long name.
 abbrev pub text_option : OptionRow
@@ -327,10 +327,6 @@ accepted_options =
     ∷ flag (codes "include-zero") []
     ∷ option (codes "encoding") [] Set
     ∷ []
-
--- an option that is an error together with one more
-abbrev pub excluding : OptionRow → List ℕ → OptionRow
-excluding row other = record row { excludes = row.excludes ++ other ∷ [] }
 
 -- Records that end in zero bytes. Of this option and `crlf` the later one takes effect.
 abbrev pub null_option : OptionRow

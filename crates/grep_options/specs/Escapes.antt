@@ -1,5 +1,5 @@
 -- Values of options in which escapes stand for bytes, as in ripgrep.
-use Rattle.std.specs.Prelude.{ℕ, ◌+◌, ◌*◌, ◌==◌, Bool, ◌&&◌, nat_lt, List, [], ◌∷◌, ◌++◌, codes, if◌then◌else◌}
+use Rattle.std.specs.Prelude.{ℕ, ◌+◌, ◌*◌, ◌==◌, Bool, ◌&&◌, nat_lt, List, [], ◌∷◌, ◌++◌, if◌then◌else◌}
 use Rattle.std.specs.Char.{digit_value}
 use Rattle.grep_options.specs.declared.escapes.Escape.{Escape}
 use Rattle.grep_options.specs.declared.escapes.Escape.TheVariants.{Nothing, Backslash, Hex, Digit}

@@ -4,17 +4,13 @@
 //! `specs/Options.antt` defines what they return.
 #![tactic(auto)]
 
-mod binary;
-mod case;
 mod escapes;
 mod files;
-mod format;
-mod headings;
-mod ignoring;
-mod inputs;
 mod numbers;
+mod option_rows;
 mod options;
 mod sizes;
+mod tables;
 mod values;
 
 pub use escapes::unescaped;

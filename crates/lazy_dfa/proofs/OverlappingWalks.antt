@@ -3,6 +3,7 @@
 pub mod RestLemmas
 pub mod PlaceEndLemmas
 pub mod WalkEndLemmas
+pub mod FoundNextLemmas
 pub mod WalkGoesOnLemmas
 pub mod WhichLemmas
 pub mod WalkLeftLemmas

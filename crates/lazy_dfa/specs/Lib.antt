@@ -35,5 +35,6 @@ pub mod OverlappingAnswers
 pub mod OverlappingPromises
 pub mod OverlappingTurns
 pub mod OverlappingLaws
+pub mod OverlappingFound
 pub mod Changes
 pub mod Blanks

@@ -20,7 +20,7 @@ use Rattle.lazy_dfa.specs.Linked.{scans_of, start_from}
 use Rattle.lazy_dfa.specs.Scans.{index_at, first_value, start_name}
 use Rattle.lazy_dfa.specs.ScanLaws.{scan_len_of, HasNoQuit}
 use Rattle.lazy_dfa.specs.Readers.{Reader, HalfAnswer, found, quit, unsupported, is_quit}
-use Rattle.lazy_dfa.specs.HalfSearchLaws.{begins_at, ReadsAlike, IsFirstFound}
+use Rattle.lazy_dfa.specs.HalfSearchLaws.{begins_at, IsFound, ReadsAlike, IsFirstFound}
 use Rattle.lazy_dfa.specs.HalfSearches.{half_search}
 use Rattle.lazy_dfa.specs.StartCalls.{rejected_start}
 
@@ -117,6 +117,16 @@ made_by r q (p ∷ ps) = suc (scan_len_of r q.anchored q.earliest q.haystack p.0
 
 -- ---- what is found, and in which part of the haystack
 
+-- The end that a half search found, forward or in reverse, for every kind of match: no definition of a scan is needed for this.
+-- `wanted`: of the ends of runs from the state in which it starts, with looks read by ASCII bytes, it is the nearest one if
+-- the earliest end is asked for. Otherwise it is the first one under leftmost-first, and the last one if all matches are asked
+-- for. If such an end doesn't count, the next offset at which an unanchored search begins decides. A search for a pattern that
+-- doesn't exist finds nothing, and neither does one that was done before it began.
+pub record FindsWanted (r : Reader) (q : Search) (o : Option (ℕ × ℕ)) : Type 0 where
+  pub wanted : (name : ℕ) → q.start ≤ q.end → start_name r.automaton q.anchored ≡ Some name → IsFound r q name o
+  pub no_pattern : start_name r.automaton q.anchored ≡ None → o ≡ None
+  pub done : q.end < q.start → o ≡ None
+
 -- What a forward half search found, and the offset after what it read: no definition of a scan is needed for this. There
 -- is no quit byte from the byte before the span to that offset. Under leftmost-first it found the first end for each
 -- reading of looks that agrees with the ASCII reading up to there, unless it was done before it began. A search that was
@@ -131,9 +141,9 @@ pub record IsFoundUpTo (r : Reader) (q : Search) (o : Option (ℕ × ℕ)) (end 
       start_name r.automaton q.anchored ≡ Some name → ReadsAlike r holds q.haystack q.start q.end (begins_at r q) (end - begins_at r q) →
       IsFirstFound r q holds name o
 
--- what a forward half search returned if it succeeded
+-- what a forward half search returned if it succeeded: the wanted end, and up to where it read
 abbrev pub FindsUpTo : Reader → Search → Result (Option HalfFound) MatchErrorKind → Type 0
-FindsUpTo r q result = IfOk result (λ f. (end : ℕ) × IsFoundUpTo r q (pair_of f) end)
+FindsUpTo r q result = IfOk result (λ f. FindsWanted r q (pair_of f) × ((end : ℕ) × IsFoundUpTo r q (pair_of f) end))
 
 -- What a half search in reverse found, and the first of the offsets that it read. There is no quit byte from there to the
 -- byte after the span. A search that was done before it began read nothing.
@@ -143,9 +153,9 @@ pub record IsFoundDownTo (r : Reader) (q : Search) (o : Option (ℕ × ℕ)) (be
   pub past : (e : ℕ × ℕ) → o ≡ Some e → begin ≤ e.0
   pub quiet : (x : ℕ) → begin ≤ x → x ≤ q.end → is_quit r.quits (byte_at q.haystack x) ≡ false
 
--- what a half search in reverse returned if it succeeded
+-- what a half search in reverse returned if it succeeded: the wanted end, and down to where it read
 abbrev pub FindsDownTo : Reader → Search → Result (Option HalfFound) MatchErrorKind → Type 0
-FindsDownTo r q result = IfOk result (λ f. (begin : ℕ) × IsFoundDownTo r q (pair_of f) begin)
+FindsDownTo r q result = IfOk result (λ f. FindsWanted r q (pair_of f) × ((begin : ℕ) × IsFoundDownTo r q (pair_of f) begin))
 
 -- ---- reach
 

@@ -1,8 +1,11 @@
 //! Overlapping searches, which report all ends of matches one by one.
 ghost use Rattle.std.specs.Prelude.{◌≡◌, false, true, Ok, Err, IfOk, IfErr};
+ghost use Rattle.search_types.specs.Inputs.{IsWithin};
 ghost use Rattle.lazy_dfa.specs.Caches.{IsCacheOf};
+ghost use Rattle.lazy_dfa.specs.Dfas.{IsDfa, reader};
 ghost use Rattle.lazy_dfa.specs.Overlapping.{CanContinue, StopsAt};
 ghost use Rattle.lazy_dfa.specs.OverlappingAnswers.{MakesCall, failed_by};
+ghost use Rattle.lazy_dfa.specs.OverlappingFound.{FindsNextLeft};
 ghost use Rattle.lazy_dfa.specs.OverlappingPromises.{AnswersCall, CallLeavesCache, CountsCall, ReportsCall};
 ghost use Rattle.lazy_dfa.specs.declared.overlapping.overlapping_state.OverlappingPosition.TheVariants.{Fresh, Stopped};
 
@@ -125,10 +128,14 @@ pub(crate) fn call<L: Ledger, M: Ledger>(
 ) -> Result<(), MatchError>
     requires own { IsCacheOf dfa.now cache.old }
     requires walk { CanContinue dfa.now cache.old input.now state.old.walk }
+    ensures made { IsDfa dfa.now }
+    ensures within { IsWithin input.now }
     ensures own { IsCacheOf dfa.now cache.new }
     ensures call { MakesCall dfa.now input.now cache.old cache.new work.old.determinized work.new.determinized work.old.inserted
         work.new.inserted state.old.walk state.new result }
 {
+    dfa.is_made();
+    let _haystack = input.haystack();
     let reported = match go_on(dfa, cache, input, state.walk, work) {
         Ok(reported) => reported,
         Err(e) => {
@@ -148,6 +155,10 @@ impl DFA {
     /// match the empty string, the search skips ends that split a character. Under [`MatchKind::All`](search_types::MatchKind),
     /// the ends are those of all runs, each once, as [`walk_laws`](crate::laws::walk_laws) state. Whether the earliest end is enough
     /// makes no difference.
+    ///
+    /// Under [`MatchKind::All`](search_types::MatchKind), if no quit byte is in the span or next to it, the clause `found` says which
+    /// end a call reports, by the ends of the automaton's runs alone. It is the next one in reading order; at one offset, the end of
+    /// the most preferred run comes first.
     ///
     /// Precondition: the search hasn't begun, or it can go on in this cache. Between its calls, other calls may use the cache
     /// only if they clear nothing.
@@ -174,6 +185,7 @@ impl DFA {
         requires walk { CanContinue self.now cache.old input.now state.old.walk }
         ensures own { IsCacheOf self.now cache.new }
         ensures walk { CanContinue self.now cache.new input.now state.new.walk }
+        ensures found { FindsNextLeft (reader self.now) input.now state.old.walk state.new result }
         ensures answer { AnswersCall self.now input.now cache.new state.old.walk state.new result }
         ensures cache { CallLeavesCache self.now input.now state.old.walk cache.old cache.new }
         ensures work { CountsCall self.now input.now state.old.walk work.old.determinized work.new.determinized work.old.inserted
@@ -198,6 +210,7 @@ impl DFA {
         requires walk { CanContinue self.now cache.old input.now state.old.walk }
         ensures own { IsCacheOf self.now cache.new }
         ensures walk { CanContinue self.now cache.new input.now state.new.walk }
+        ensures found { FindsNextLeft (reader self.now) input.now state.old.walk state.new result }
         ensures answer { AnswersCall self.now input.now cache.new state.old.walk state.new result }
         ensures cache { CallLeavesCache self.now input.now state.old.walk cache.old cache.new }
         ensures work { CountsCall self.now input.now state.old.walk work.old.determinized work.new.determinized work.old.inserted

@@ -44,7 +44,7 @@ use Rattle.line_search.specs.Candidates.{IsNextLine, StopsInLine, searched_tree}
 use Rattle.line_search.specs.Candidates.IsStop.{least_end, quit_byte}
 use Rattle.line_search.specs.Lines.{ended, searched, split_lines}
 use Rattle.line_search.specs.Patterns.{has_match_in}
-use Rattle.line_search.specs.Searchers.{IsResized, line_settings}
+use Rattle.line_search.specs.Searchers.{line_settings}
 use Rattle.regex_pair.specs.Pairs.{Pair}
 use Rattle.line_search.proofs.FeedPlaceLemmas.{is_feed, first_at, first_within, one_more, some_at, feed_there}
 use Rattle.line_search.proofs.LineCutLemmas.{IsSearchedIn, StandsIn, before_start, lines_between, searched_in}
@@ -123,21 +123,6 @@ pub have_none : (how : PatternOptions) (texts : List (List ℕ)) (p : BlockRegex
     HaveNoMatch how texts text
 have_none how texts p block text at x it bytes least all =
     have_none_of how texts it.tree p.exact block text at x it.mean it.plain bytes least all
-
--- ---- larger caches
--- a regex of the same trees with other caches serves as well
-pub candidates_resized : (how : PatternOptions) (texts : List (List ℕ)) (p q : Pair) (exact feedless crlf : Bool) (bytes : ℕ) →
-    IsResized bytes p q → IsCandidatesOf how texts (record { regex = p; exact = exact; feedless = feedless; crlf = crlf }) →
-    IsCandidatesOf how texts (record { regex = q; exact = exact; feedless = feedless; crlf = crlf })
-candidates_resized how texts p q exact feedless crlf bytes resized it = record {
-  same = it.same;
-  tree = it.tree;
-  mean = it.mean;
-  plain = it.plain;
-  feedless = it.feedless;
-  capacity = Some bytes;
-  built = resized (line_tree how.crlf (searched_tree exact it.tree) ∷ []) it.capacity it.built;
-}
 
 -- ---- what a search returns
 pub end_told : (xs : List Tree) (block : List ℕ) (at : ℕ) (o : Option ℕ) →

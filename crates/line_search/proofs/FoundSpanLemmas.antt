@@ -2,27 +2,21 @@
 use Rattle.std.proofs.Common.{◌≡◌, ℕ, ◌+◌, ◌<◌, ◌==◌, true, false, List, [], ◌∷◌, All, Option}
 use Rattle.std.proofs.Common.{Ok, option_map, if◌then◌else◌, sym, ap, ◌∙◌}
 use Rattle.std.proofs.lemmas.List.Elements.{All-nil, All-cons}
-use Rattle.regex_hir.specs.Re.{Re}
 use Rattle.regex_hir.specs.Meaning.{alt_all}
 use Rattle.regex_hir.specs.Text.{is_some_and}
 use Rattle.hir_core.specs.Facts.{LoopsRead}
 use Rattle.hir_core.specs.Tree.{Tree}
 use Rattle.search_types.specs.Found.{Found}
-use Rattle.regex_pair.specs.Pairs.{Pair, PairCache}
-use Rattle.regex_pair.specs.PairAnswers.{AnswersPair}
-use Rattle.hir_regex.specs.Built.{IsBuilt}
 use Rattle.hir_regex.specs.Regexes.{IsSearchOf}
-use Rattle.pattern_text.specs.SameEnds.{AreSameEnds, AreSameSpans}
-use Rattle.pattern_search.specs.RegexAnswers.{AnswersAsRead}
+use Rattle.growing_regex.specs.Growing.{AnswersBy, Growing}
 use Rattle.pattern_search.specs.Searches.{span_of_found, span_of_match, whole_search}
 use Rattle.line_search.specs.Bounded.{line_pattern}
 use Rattle.line_search.specs.BoundedTrees.{IsTreeOf}
 use Rattle.line_search.specs.Fallbacks.{next_after}
 use Rattle.line_search.specs.FoundSpans.{IsFoundSpan}
-use Rattle.line_search.specs.Searchers.{IsSearcherOf, sized_settings}
+use Rattle.line_search.specs.Searchers.{IsSearcherOf}
 use Rattle.line_search.specs.declared.patterns.PatternOptions.{PatternOptions}
-use Rattle.line_search.proofs.BoundedTreeLemmas.{ends_of, spans_of}
-use Rattle.line_search.proofs.ToldLemmas.{is_search}
+use Rattle.line_search.proofs.ToldLemmas.{Law, answers_of, is_search}
 use Rattle.line_search.proofs.WholePatternLemmas.{find_same, whole_is_each, whole_pattern}
 
 -- ---- what was found by automata, from an offset on
@@ -31,18 +25,15 @@ is_search_from xs line at bytes =
     let it = is_search xs line bytes in
     record { within = it.within; whole = it.whole; bytes = it.bytes; valid = it.valid; utf8_trees = it.utf8_trees }
 
-pub found_told : (how : PatternOptions) (texts : List (List ℕ)) (p : Pair) (c : PairCache) (line : List ℕ) (at : ℕ) (o : Option Found)
+pub found_told : (how : PatternOptions) (texts : List (List ℕ)) (g : Growing) (line : List ℕ) (at : ℕ) (o : Option Found)
     (reported : Option (ℕ × ℕ)) →
-    ((res : List Re) (xs : List Tree) (k : Option ℕ) → AreSameEnds res xs → AreSameSpans res xs → IsBuilt xs (sized_settings k) p →
-    AnswersAsRead res xs (sized_settings k) p) →
-    (it : IsSearcherOf how texts p) → IsTreeOf how texts it.tree → LoopsRead it.tree → All (λ b. b < 256) line → AnswersPair p c (whole_search line at) (Ok o) →
-    reported ≡ option_map span_of_found o → IsFoundSpan how texts line at reported
-found_told how texts p c line at o reported law it mean loops bytes answer is res read =
-    let answers = law (whole_pattern how res ∷ []) (it.tree ∷ []) it.capacity (ends_of how texts it.tree mean res read)
-    (spans_of how texts it.tree mean res read) it.built in
+    Law → (it : IsSearcherOf how texts g.pair) → IsTreeOf how texts it.tree → LoopsRead it.tree → All (λ b. b < 256) line →
+    AnswersBy g (whole_search line at) (Ok o) → reported ≡ option_map span_of_found o → IsFoundSpan how texts line at reported
+found_told how texts g line at o reported law it mean loops bytes by is res read =
+    let answers = answers_of how texts g by.pair law it mean by.grown res read in
     let all = All-cons LoopsRead it.tree [] loops (All-nil LoopsRead) in
     is
-    ∙ sym (answers.found all line at (is_search_from (it.tree ∷ []) line at bytes) c o answer)
+    ∙ sym (answers.found all line at (is_search_from (it.tree ∷ []) line at bytes) by.cache o by.answer)
     ∙ ap (option_map span_of_match) (find_same (alt_all (whole_pattern how res ∷ [])) (line_pattern how res) (whole_is_each how res) line bytes
     at)
 

@@ -18,7 +18,6 @@ mod NumberedLemmas
 mod OwnLemmas
 mod PartLemmas
 mod PlainLemmas
-mod RegexLemmas
 mod ReplaceLemmas
 mod ToldLemmas
 mod WholePatternLemmas

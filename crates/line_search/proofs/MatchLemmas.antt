@@ -7,6 +7,7 @@ use Rattle.ucd_perl.specs.Perl.{is_word_char}
 use Rattle.regex_hir.specs.Meaning.{alt_all}
 use Rattle.regex_hir.specs.Re.{Re}
 use Rattle.regex_hir.specs.Find.{find}
+use Rattle.look_core.specs.Looks.{IsWordSet}
 use Rattle.search_types.specs.declared.anchored.Anchored.TheVariants.{No}
 use Rattle.search_types.specs.Found.{Found}
 use Rattle.search_types.specs.Inputs.{Search}
@@ -17,11 +18,14 @@ use Rattle.hir_core.proofs.ForCallers.{span_within}
 use Rattle.line_trees.specs.LineTrees.{line_looks}
 use Rattle.regex_pair.specs.Pairs.{Pair, PairCache}
 use Rattle.regex_pair.specs.PairAnswers.{AnswersPair}
-use Rattle.hir_regex.specs.Built.{IsBuilt}
+use Rattle.hir_regex.specs.declared.settings.Settings.{Settings}
+use Rattle.hir_regex.specs.Built.{IsBuilt, FindsFirst}
 use Rattle.hir_regex.specs.Choices.{answer_from}
 use Rattle.hir_regex.specs.Headline.{query_by}
 use Rattle.hir_regex.specs.LooseAnswers.{IsLooseAnswer}
 use Rattle.hir_regex.specs.Regexes.{IsSearchOf}
+use Rattle.growing_regex.specs.Growing.{AnswersBy, Growing, sized_settings}
+use Rattle.pattern_text.specs.Words.{word_set}
 use Rattle.pattern_search.specs.Texts.{AreReadAs}
 use Rattle.pattern_search.specs.Searches.{whole_query, whole_search}
 use Rattle.pattern_search.proofs.ForCallers.{alike_some, answer_is_loose}
@@ -31,7 +35,7 @@ use Rattle.line_search.specs.FewerWords.{HasFewerWords}
 use Rattle.line_search.specs.Meant.{line_config}
 use Rattle.line_search.specs.declared.patterns.PatternOptions.{PatternOptions}
 use Rattle.line_search.specs.Patterns.{has_match_in}
-use Rattle.line_search.specs.Searchers.{IsMatchReported, IsSearcherOf, sized_settings}
+use Rattle.line_search.specs.Searchers.{IsMatchReported, IsSearcherOf, line_settings}
 use Rattle.line_search.proofs.BoundedTreeLemmas.{read_as, starts_of}
 use Rattle.line_search.proofs.FewerWordLemmas.{span_of_all, span_of_fewer}
 use Rattle.line_search.proofs.ToldLemmas.{is_search}
@@ -163,11 +167,13 @@ told_by how texts t res line it read bytes (Some f) loose =
     (subst (λ (x : Tree). Means (line_looks is_word_char line) line x f.start f.end)
     (only_tree t f.pattern found.span.tree found.span.listed) found.span.means)
 
-pub progress_of : (how : PatternOptions) (texts : List (List ℕ)) (p : Pair) (c : PairCache) (line : List ℕ) (o : Option Found) →
-    ((xs : List Tree) (k : Option ℕ) → IsBuilt xs (sized_settings k) p → (q : Search) → IsSearchOf xs false q →
-    AnswersPair p c q (Ok o) → IsLooseAnswer (query_by is_word_char xs (sized_settings k) q) q.start o) →
-    IsSearcherOf how texts p → All (λ b. b < 256) line → AnswersPair p c (whole_search line 0) (Ok o) →
+pub progress_of : (how : PatternOptions) (texts : List (List ℕ)) (g : Growing) (line : List ℕ) (o : Option Found) →
+    ((xs : List Tree) (s : Settings) (p : Pair) → IsBuilt xs s p → FindsFirst s → (q : Search) → IsSearchOf xs s.utf8 q →
+    (c : PairCache) (r : Option Found) → AnswersPair p c q (Ok r) → (words : ℕ → Bool) → IsWordSet words →
+    IsLooseAnswer (query_by words xs s q) q.start r) →
+    IsSearcherOf how texts g.pair → All (λ b. b < 256) line → AnswersBy g (whole_search line 0) (Ok o) →
     IsMatchReported how texts line (is_some o)
-progress_of how texts p c line o law it bytes answer res read =
+progress_of how texts g line o law it bytes by res read =
     told_by how texts it.tree res line it.mean read bytes o
-    (law (it.tree ∷ []) it.capacity it.built (whole_search line 0) (is_search (it.tree ∷ []) line bytes) answer)
+    (law (it.tree ∷ []) (sized_settings by.grown.capacity line_settings) by.pair (by.grown.built (it.tree ∷ []) line_settings it.built) refl
+    (whole_search line 0) (is_search (it.tree ∷ []) line bytes) by.cache o by.answer is_word_char word_set)

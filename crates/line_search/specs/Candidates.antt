@@ -20,7 +20,7 @@ use Rattle.line_search.specs.declared.candidates.Reached.{Reached}
 use Rattle.line_search.specs.declared.patterns.PatternOptions.{PatternOptions}
 use Rattle.line_search.specs.Lines.{ended, searched, split_lines}
 use Rattle.line_search.specs.Patterns.{has_match_in}
-use Rattle.line_search.specs.Searchers.{IsMatchReported, line_settings, sized_settings}
+use Rattle.line_search.specs.Searchers.{IsMatchReported, line_settings}
 
 -- What searches blocks: a regex, whether the tree of the patterns is searched for as it is, whether it consumes no line feed, and whether a
 -- carriage return right before a line feed belongs to the end of a line.
@@ -44,8 +44,7 @@ pub record IsCandidatesOf (how : PatternOptions) (texts : List (List ℕ)) (p : 
   pub mean : IsTreeForLines how texts tree
   pub plain : has_crlf tree ≡ false
   pub feedless : p.feedless ≡ true → reads_feed tree ≡ false
-  pub capacity : Option ℕ
-  pub built : IsBuilt (line_tree how.crlf (searched_tree p.exact tree) ∷ []) (sized_settings capacity) p.regex
+  pub built : IsBuilt (line_tree how.crlf (searched_tree p.exact tree) ∷ []) line_settings p.regex
 
 -- A line starts at this offset: it is the start of the haystack, or it is right after a line feed.
 abbrev pub IsLineStart : List ℕ → ℕ → Type 0

@@ -1,17 +1,13 @@
 -- What a line searcher is built from, and what it reports about a line.
-use Rattle.std.specs.Prelude.{◌≡◌, ◌⊎◌, ℕ, Bool, true, false, List, [], ◌∷◌, Option, Some, Err}
+use Rattle.std.specs.Prelude.{◌≡◌, ◌⊎◌, ℕ, Bool, true, false, List, [], ◌∷◌, Some}
 use Rattle.regex_hir.specs.Re.{Re}
 use Rattle.regex_syntax.specs.Grammar.{Names}
 use Rattle.hir_core.specs.Tree.{Tree}
 use Rattle.lazy_dfa.specs.declared.build_error.BuildError.TheVariants.{NoMemory}
-use Rattle.search_types.specs.declared.match_error.MatchErrorKind.{MatchErrorKind}
-use Rattle.search_types.specs.declared.match_error.MatchErrorKind.TheVariants.{NoMemory as LacksMemory}
-use Rattle.regex_pair.specs.PairAnswers.{AnswersPair}
-use Rattle.regex_pair.specs.Pairs.{Pair, PairCache}
+use Rattle.regex_pair.specs.Pairs.{Pair}
 use Rattle.hir_regex.specs.declared.settings.Settings.{Settings}
 use Rattle.hir_regex.specs.Built.{IsBuilt, FailsBuild, default_settings, program_settings}
 use Rattle.hir_regex.specs.Loops.{first_empty_loop}
-use Rattle.pattern_search.specs.Searches.{whole_search}
 use Rattle.pattern_search.specs.Texts.{AllMean, AreReadAs, IsFirstFault}
 use Rattle.line_search.specs.BoundedTrees.{IsTreeAskedFor, IsTreeForLines}
 use Rattle.line_search.specs.Meant.{line_config}
@@ -26,22 +22,11 @@ use Rattle.line_search.specs.Replacing.{all_names, replaced_spans, replaced_text
 abbrev pub line_settings : Settings
 line_settings = record (program_settings (record default_settings { utf8 = false })) { size_limit = Some 62914560 }
 
--- The settings for searching lines with caches of this capacity, or of the default capacity if there is none. The capacity changes no
--- answer.
-abbrev pub sized_settings : Option ℕ → Settings
-sized_settings capacity = record line_settings { dfa = record (line_settings.dfa) { cache_capacity = capacity } }
-
--- The regex is built from a tree that suffices to find the lines that these patterns match, with any capacity of its caches.
+-- The regex is built from a tree that suffices to find the lines that these patterns match.
 pub record IsSearcherOf (how : PatternOptions) (texts : List (List ℕ)) (p : Pair) : Type 0 where
   pub tree : Tree
   pub mean : IsTreeForLines how texts tree
-  pub capacity : Option ℕ
-  pub built : IsBuilt (tree ∷ []) (sized_settings capacity) p
-
--- The second regex is built from the trees of the first one, with caches of this capacity.
-abbrev pub IsResized : ℕ → Pair → Pair → Type 0
-IsResized bytes p q =
-    (xs : List Tree) (capacity : Option ℕ) → IsBuilt xs (sized_settings capacity) p → IsBuilt xs (sized_settings (Some bytes)) q
+  pub built : IsBuilt (tree ∷ []) line_settings p
 
 -- The reported answer to whether the line has a match is right for the patterns as they are parsed.
 abbrev pub IsMatchReported : PatternOptions → List (List ℕ) → List ℕ → Bool → Type 0
@@ -55,10 +40,6 @@ AreReported how texts line reported = (res : List Re) → AreReadAs (line_config
 pub record AreReplaced (how : PatternOptions) (texts : List (List ℕ)) (template line bytes : List ℕ) (spans : List (ℕ × ℕ)) : Type 0 where
   pub bytes_are : (res : List Re) → AreReadAs (line_config how) texts res → bytes ≡ replaced_text how (all_names how texts) res template line
   pub spans_are : (res : List Re) → AreReadAs (line_config how) texts res → spans ≡ replaced_spans how (all_names how texts) res template line
-
--- Why a search of the line fails. Either memory ran out, or the error is that of a search by the regex from some offset of the line.
-abbrev pub IsLineError : Pair → List ℕ → MatchErrorKind → Type 0
-IsLineError p line e = (e ≡ LacksMemory) ⊎ ((at : ℕ) × (c : PairCache) × AnswersPair p c (whole_search line at) (Err e))
 
 -- What lines are searched for: the patterns, how they are interpreted, and whether the search may be asked for matches.
 pub record Sought : Type 0 where

@@ -1,15 +1,14 @@
 //! Finds the lines of blocks that may have a match, in inputs of any script.
-ghost use Rattle.std.specs.Prelude.{◌≡◌, ◌≤◌, ◌∷◌, [], IfOk, length};
+ghost use Rattle.std.specs.Prelude.{◌≡◌, ◌≤◌, ◌∷◌, [], IfOk, IfSome, length};
 ghost use Rattle.hir_regex.specs.Built.{IsBuilt};
 ghost use Rattle.line_search.specs.BoundedTrees.{IsTreeForLines};
-ghost use Rattle.line_search.specs.Candidates.{IsLineStart, IsNextLine};
+ghost use Rattle.line_search.specs.Candidates.{IsCandidatesOf, IsLineStart, IsNextLine};
 ghost use Rattle.line_search.specs.Searchers.{line_settings};
 
-use crate::block_search::BlockSearch;
-use crate::candidates::Reached;
+use crate::candidates::{Candidates, Reached, exact_regex, wordless_regex};
 use crate::fault::Fault;
 use crate::line_patterns::LinePatterns;
-use crate::searcher::Searcher;
+use growing_regex::GrowingRegex;
 use hir_core::Hir;
 use std::alloc::Global;
 use std::marker::Model;
@@ -18,68 +17,120 @@ use std::marker::Model;
 const WORDLESS_SPAN: usize = 1 << 16;
 
 /// Two searches of blocks for the same patterns. The exact one is used until it gives up at a byte above ASCII. Then the other one, which has
-/// no looks at words, is used for some time. That one never gives up, but passes fewer lines.
+/// no looks at words, is used for some time. That one never gives up, but passes fewer lines. If the exact one can't be built, no line is
+/// passed.
 #[derive(Drop)]
 pub(crate) struct CandidateFinder<'t> {
     patterns: &'t LinePatterns<'t>,
-    exact: BlockSearch<'t>,
-    /// It is built when the exact one first gives up.
-    wordless: Option<BlockSearch<'t>>,
+    exact: Option<Candidates>,
+    /// It is built when the exact one first gives up, if that is possible.
+    wordless: Option<Candidates>,
+    /// Whether the exact one gave up before.
+    gave_up: bool,
     /// How many more bytes are searched without looks at words.
     wordless_left: usize,
 }
 
 impl<'t> Model for CandidateFinder<'t> {
-    ghost use Rattle.std.specs.Prelude.{◌≡◌, IfSome, ℕ, List};
+    ghost use Rattle.std.specs.Prelude.{IfSome, ℕ, List};
+    ghost use Rattle.line_search.specs.Candidates.{IsCandidatesOf};
     ghost use Rattle.line_search.specs.declared.patterns.PatternOptions.{PatternOptions};
 
     ghost Value = { PatternOptions × List (List ℕ) };
 
     ghost view = { λ f. f.patterns.now };
 
-    ghost invariant = { λ f. (f.exact ≡ f.patterns.now) × IfSome f.wordless (λ b. b ≡ f.patterns.now) };
+    ghost invariant = { λ f. IfSome f.exact (IsCandidatesOf f.patterns.now.0 f.patterns.now.1)
+        × IfSome f.wordless (IsCandidatesOf f.patterns.now.0 f.patterns.now.1) };
+}
+
+/// A search of blocks for the tree of the patterns, over a search of lines for it. If there is none, each line is searched by itself.
+fn exact_candidates(
+    alloc: Global,
+    patterns: &LinePatterns<'_>,
+    tree: &Hir,
+    lines: &GrowingRegex,
+) -> Option<Candidates>
+    requires tree { IsTreeForLines patterns.now.0 patterns.now.1 tree.now }
+    requires lines { IsBuilt (tree.now ∷ []) line_settings lines.now.pair }
+    ensures { IfSome result (IsCandidatesOf patterns.now.0 patterns.now.1) }
+{
+    let crlf = patterns.how().crlf;
+    let Ok(regex) = exact_regex(alloc, tree, lines, crlf) else {
+        return None;
+    };
+    let Ok(candidates) = Candidates::new(alloc, regex, tree, true, crlf) else {
+        return None;
+    };
+    candidates
+}
+
+/// A search of blocks for the tree of the patterns without its looks at words, if there is one.
+fn wordless_candidates(alloc: Global, patterns: &LinePatterns<'_>) -> Option<Candidates>
+    ensures { IfSome result (IsCandidatesOf patterns.now.0 patterns.now.1) }
+{
+    let crlf = patterns.how().crlf;
+    let Ok(tree) = patterns.tree(false) else {
+        return None;
+    };
+    let Ok(regex) = wordless_regex(alloc, tree, crlf) else {
+        return None;
+    };
+    let Ok(candidates) = Candidates::new(alloc, regex, tree, false, crlf) else {
+        return None;
+    };
+    candidates
+}
+
+/// How often the caches of a search were cleared, if there is one.
+fn clears_of(candidates: &Option<Candidates>) -> usize {
+    match candidates {
+        Some(candidates) => candidates.search.clear_count(),
+        None => 0,
+    }
+}
+
+/// The bytes that the caches of a search are estimated to need, if there is one.
+fn usage_of(candidates: &Option<Candidates>) -> usize {
+    match candidates {
+        Some(candidates) => candidates.search.memory_usage(),
+        None => 0,
+    }
 }
 
 impl<'t> CandidateFinder<'t> {
-    /// Builds the exact search. The searcher is one of lines for the tree of the patterns.
+    /// Builds the exact search, over a search of lines for the tree of the patterns.
     pub(crate) fn new(
         alloc: Global,
         patterns: &'t LinePatterns<'t>,
         tree: &Hir,
-        lines: &Searcher,
+        lines: &GrowingRegex,
     ) -> CandidateFinder<'t>
         requires tree { IsTreeForLines patterns.now.0 patterns.now.1 tree.now }
-        requires lines { IsBuilt (tree.now ∷ []) line_settings lines.now.0 }
+        requires lines { IsBuilt (tree.now ∷ []) line_settings lines.now.pair }
         ensures { result ≡ patterns.now }
     {
         CandidateFinder {
             patterns,
-            exact: BlockSearch::exact(alloc, patterns, tree, lines),
+            exact: exact_candidates(alloc, patterns, tree, lines),
             wordless: None,
+            gave_up: false,
             wordless_left: 0,
         }
     }
 
     /// How often the caches were cleared. The greatest number stands for any number above it.
     pub(crate) fn clear_count(&self) -> usize {
-        let clears = self.exact.clear_count();
-        match &self.wordless {
-            Some(wordless) => clears.saturating_add(wordless.clear_count()),
-            None => clears,
-        }
+        clears_of(&self.exact).saturating_add(clears_of(&self.wordless))
     }
 
     /// The bytes that the caches are estimated to need.
     pub(crate) fn memory_usage(&self) -> usize {
-        let usage = self.exact.memory_usage();
-        match &self.wordless {
-            Some(wordless) => usage.saturating_add(wordless.memory_usage()),
-            None => usage,
-        }
+        usage_of(&self.exact).saturating_add(usage_of(&self.wordless))
     }
 
     /// Returns the next line that may have a match, by the search without looks at words. If there is none, this is the line at `at`.
-    fn reach_wordless(&mut self, alloc: Global, block: &[u8], at: usize) -> Result<Reached, Fault>
+    fn reach_wordless(&mut self, block: &[u8], at: usize) -> Result<Reached, Fault>
         requires within { at ≤ length block.now }
         requires starts { IsLineStart block.now at }
         ensures same { self.new ≡ self.old }
@@ -88,10 +139,7 @@ impl<'t> CandidateFinder<'t> {
         let Some(wordless) = &mut self.wordless else {
             return Ok(Reached::here(at));
         };
-        let reached = match wordless.next_candidate(alloc, block, at) {
-            Ok(reached) => reached,
-            Err(e) => return Err(e),
-        };
+        let reached = wordless.search_block(block, at)?;
         Ok(reached)
     }
 
@@ -101,10 +149,11 @@ impl<'t> CandidateFinder<'t> {
         ensures { self.new ≡ self.old }
     {
         self.wordless_left = WORDLESS_SPAN;
-        if self.wordless.is_some() {
+        if self.gave_up {
             return;
         }
-        self.wordless = Some(BlockSearch::wordless(alloc, self.patterns));
+        self.gave_up = true;
+        self.wordless = wordless_candidates(alloc, self.patterns);
     }
 
     /// Records that this many bytes were searched without looks at words.
@@ -129,19 +178,16 @@ impl<'t> CandidateFinder<'t> {
         ensures next { IfOk result (IsNextLine self.old.0 self.old.1 block.now at) }
     {
         if self.wordless_left == 0 {
-            let reached = match self.exact.next_candidate(alloc, block, at) {
-                Ok(reached) => reached,
-                Err(e) => return Err(e),
+            let Some(exact) = &mut self.exact else {
+                return Ok(Reached::here(at));
             };
+            let reached = exact.search_block(block, at)?;
             if !reached.gave_up {
                 return Ok(reached);
             }
             self.begin_wordless(alloc);
         }
-        let reached = match self.reach_wordless(alloc, block, at) {
-            Ok(reached) => reached,
-            Err(e) => return Err(e),
-        };
+        let reached = self.reach_wordless(block, at)?;
         self.count_wordless(reached.passed);
         Ok(reached)
     }

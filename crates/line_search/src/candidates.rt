@@ -11,25 +11,25 @@ ghost use Rattle.line_search.specs.BoundedTrees.{IsTreeForLines};
 ghost use Rattle.line_search.specs.declared.patterns.PatternOptions.{PatternOptions};
 ghost use Rattle.line_search.specs.Candidates.{IsCandidatesOf, IsLineStart, HaveNoMatch, HasMatchAt, IsStop, IsStopIfAny};
 ghost use Rattle.line_search.specs.Candidates.{IsEnd, searched_tree, StopsInLine};
-ghost use Rattle.line_search.specs.Searchers.{line_settings, sized_settings};
+ghost use Rattle.line_search.specs.Searchers.{line_settings};
 ghost use Rattle.line_search.specs.declared.fault.Fault.TheVariants.{NoMemory};
 
 use crate::edges::asks_for_edge;
 use crate::fault::Fault;
 use crate::feeds::skip_back;
-use crate::regexes::{regex_of, resized};
-use crate::searcher::{Searcher, see_bytes};
-use earliest_ends::find_earliest_end;
+use crate::regexes::regex_of;
+use growing_regex::{GrowingRegex, LARGEST};
 use hir_core::Hir;
+use hir_regex::see_bytes;
 use lazy_dfa::BuildError;
 use line_trees::{has_crlf, line_tree, reads_feed, wordless_tree};
-use regex_pair::regex::{Cache, Regex};
+use regex_pair::regex::Regex;
 use search_types::{MatchError, MatchErrorKind};
 use std::alloc::{AllocError, Global};
 use std::marker::Model;
 use std::sync::Arc;
 
-/// A regex that searches blocks of lines for patterns, and the caches of its searches.
+/// A regex that searches blocks of lines for patterns, with its caches.
 ///
 /// If a line has a match, then each block that contains the line has one there. So the lines before the earliest end of a match in the
 /// block have none. A match in the block need not be a match in a line, since it may extend over the ends of lines. It is one if the
@@ -41,8 +41,7 @@ use std::sync::Arc;
 /// own line tree, the regex is shared with the search of lines.
 #[derive(Drop)]
 pub(crate) struct Candidates {
-    regex: Arc<Regex>,
-    cache: Cache,
+    pub(crate) search: GrowingRegex,
     /// Whether the tree of the patterns is searched for as it is.
     exact: bool,
     /// Whether the tree consumes no line feed.
@@ -94,14 +93,11 @@ impl Reached {
 }
 
 impl Model for Candidates {
-    ghost use Rattle.regex_pair.specs.Pairs.{AreCachesOf, PairCache};
     ghost use Rattle.line_search.specs.Candidates.{BlockRegex};
 
-    ghost Value = { BlockRegex × PairCache };
+    ghost Value = { BlockRegex };
 
-    ghost view = { λ s. (record { regex = s.regex.value; exact = s.exact; feedless = s.feedless; crlf = s.crlf }, s.cache) };
-
-    ghost invariant = { λ s. AreCachesOf s.regex.value s.cache };
+    ghost view = { λ s. record { regex = s.search.pair; exact = s.exact; feedless = s.feedless; crlf = s.crlf } };
 }
 
 /// The offset right after the last line feed between both offsets, or the first offset if there is none.
@@ -194,10 +190,10 @@ fn line_regex(alloc: Global, tree: &Hir, crlf: bool) -> Result<Arc<Regex>, Build
 pub(crate) fn exact_regex(
     alloc: Global,
     tree: &Hir,
-    lines: &Searcher,
+    lines: &GrowingRegex,
     crlf: bool,
 ) -> Result<Arc<Regex>, BuildError>
-    requires { IsBuilt (tree.now ∷ []) line_settings lines.now.0 }
+    requires { IsBuilt (tree.now ∷ []) line_settings lines.now.pair }
     ensures built { IfOk result (λ re. IsBuilt (line_tree crlf (searched_tree true tree.now) ∷ []) line_settings re.value) }
     ensures refused { IfErr result (λ e. FailsBuild (line_tree crlf (searched_tree true tree.now) ∷ []) line_settings e) }
 {
@@ -245,52 +241,19 @@ impl Candidates {
         ensures some { IfOk result (λ o. is_some o ≡ not (has_crlf tree.now)) }
         ensures candidates { (how : PatternOptions) (texts : List (List ℕ)) → how.crlf ≡ crlf → IsTreeForLines how texts tree.now →
             IsBuilt (line_tree crlf (searched_tree exact tree.now) ∷ []) line_settings regex.value →
-            IfOk result (λ o. IfSome o (λ c. IsCandidatesOf how texts c.0)) }
+            IfOk result (λ o. IfSome o (IsCandidatesOf how texts)) }
     {
         if has_crlf(tree) {
             return Ok(None);
         }
         let feedless = !reads_feed(tree);
-        let cache = Cache::new(alloc, &regex)?;
+        let search = GrowingRegex::new(alloc, regex, LARGEST)?;
         Ok(Some(Candidates {
-            regex,
-            cache,
+            search,
             exact,
             feedless,
             crlf,
         }))
-    }
-
-    /// A search by copies of the automata with caches of this capacity in bytes, if memory suffices. Nothing is compiled.
-    pub(crate) fn resized(&self, alloc: Global, capacity: usize) -> Option<Candidates>
-        ensures { (how : PatternOptions) (texts : List (List ℕ)) → IsCandidatesOf how texts self.now.0 →
-            IfSome result (λ c. IsCandidatesOf how texts c.0) }
-    {
-        let Some(regex) = resized(alloc, &self.regex, capacity) else {
-            return None;
-        };
-        match Cache::new(alloc, &regex) {
-            Ok(cache) => Some(Candidates {
-                regex,
-                cache,
-                exact: self.exact,
-                feedless: self.feedless,
-                crlf: self.crlf,
-            }),
-            Err(_) => None,
-        }
-    }
-
-    /// How often the caches were cleared. The greatest number stands for any number above it.
-    pub(crate) fn clear_count(&self) -> usize {
-        let forward = self.cache.forward().clear_count();
-        let reverse = self.cache.reverse().clear_count();
-        forward.saturating_add(reverse)
-    }
-
-    /// The bytes that both caches are estimated to need.
-    pub(crate) fn memory_usage(&self) -> usize {
-        self.cache.memory_usage()
     }
 
     /// Whether the line that starts at `start` is known to have a match, if the search started at `at`. It has one if a match ends in it
@@ -298,7 +261,7 @@ impl Candidates {
     /// match that began earlier would have consumed the one before the line. If a carriage return belongs to the end of a line, no line is
     /// known to have a match. None is if looks at words were left out either.
     fn is_known(&self, stop: Stop, start: usize, at: usize) -> bool
-        ensures { result ≡ (not self.now.0.crlf && (self.now.0.exact && (stop.is_end && (self.now.0.feedless || start == at)))) }
+        ensures { result ≡ (not self.now.crlf && (self.now.exact && (stop.is_end && (self.now.feedless || start == at)))) }
     {
         !self.crlf && self.exact && stop.is_end && (self.feedless || start == at)
     }
@@ -312,23 +275,23 @@ impl Candidates {
     ///
     /// If that match ends in the line that starts at `at`, or if the tree consumes no line feed, it is a match of the line. If a carriage
     /// return belongs to the end of a line, it need not be one.
-    pub(crate) fn next_candidate(&mut self, block: &[u8], at: usize) -> Result<Reached, Fault>
+    pub(crate) fn search_block(&mut self, block: &[u8], at: usize) -> Result<Reached, Fault>
         requires within { at ≤ length block.now }
         requires starts { IsLineStart block.now at }
-        ensures same { self.new.0 ≡ self.old.0 }
+        ensures same { self.new ≡ self.old }
         ensures from { IfOk result (λ r. at ≤ r.start) }
         ensures within { IfOk result (λ r. r.start ≤ length block.now) }
         ensures starts { IfOk result (λ r. r.start < length block.now → IsLineStart block.now r.start) }
-        ensures passed { (how : PatternOptions) (texts : List (List ℕ)) → IsCandidatesOf how texts self.old.0 →
+        ensures passed { (how : PatternOptions) (texts : List (List ℕ)) → IsCandidatesOf how texts self.old →
             IfOk result (λ r. HaveNoMatch how texts (slice_range block.now at r.start)) }
-        ensures has { (how : PatternOptions) (texts : List (List ℕ)) → IsCandidatesOf how texts self.old.0 →
+        ensures has { (how : PatternOptions) (texts : List (List ℕ)) → IsCandidatesOf how texts self.old →
             IfOk result (λ r. r.has ≡ true → HasMatchAt how texts block.now r.start) }
-        ensures stops { (xs : List Tree) (capacity : Option ℕ) → IsBuilt xs (sized_settings capacity) self.old.0.regex →
+        ensures stops { (xs : List Tree) → IsBuilt xs line_settings self.old.regex →
             IfOk result (λ r. r.start < length block.now → StopsInLine xs block.now at r.start) }
         ensures refused { IfErr result (λ e. e ≡ NoMemory) }
     {
         see_bytes(block);
-        let found = find_earliest_end(&self.regex, &mut self.cache, block, at);
+        let found = self.search.find_earliest_end(block, at);
         let stop = match stop_of(at, found) {
             Ok(stop) => stop,
             Err(e) => return Err(e),

@@ -13,14 +13,18 @@ use crate::fault::Fault;
 use crate::fewer_words::with_fewer_words;
 use crate::line_patterns::LinePatterns;
 use crate::literal_lines::{LiteralLines, line_end};
+use crate::regexes::search_of;
 use crate::replacing::Replaced;
-use crate::searcher::{Searcher, SearcherError};
-use crate::sizes::Size;
+use crate::searcher::{SearcherError, search_from, span_of, spans_of};
 use crate::slow_search::SlowSearch;
 use crate::strings::{borrowed, strings_of};
+use growing_regex::GrowingRegex;
 use hir_core::Hir;
+use hir_regex::headline::searches_answer_leftmost_whatever_the_loops;
+use hir_regex::see_bytes;
 use pattern_fallback::ends_at;
-use search_types::{MatchError, MatchErrorKind, Span};
+use pattern_search::regex_laws::regexes_answer_what_patterns_say;
+use search_types::{Input, MatchError, MatchErrorKind, Span};
 use std::alloc::Global;
 use std::marker::Model;
 use std::mem;
@@ -39,7 +43,8 @@ use std::mem;
 /// for a thousand patterns that aren't literals.
 #[derive(Drop)]
 pub struct Finder<'t> {
-    searcher: Searcher,
+    /// What searches lines.
+    searcher: GrowingRegex,
     patterns: &'t LinePatterns<'t>,
     with_matches: bool,
     slow: SlowSearch<'t>,
@@ -48,10 +53,6 @@ pub struct Finder<'t> {
     /// The tree of the patterns, if a line with one of its strings is known to have a match.
     strings: Option<Hir>,
     candidates: CandidateFinder<'t>,
-    /// The size of the caches of the search of lines.
-    line_size: Size,
-    /// How often caches of the search of lines were cleared that have been replaced by larger ones.
-    past_clears: usize,
     /// Room for the bytes of an input, which is kept for the next one.
     room: Vec<u8>,
     /// How many reads there were into it.
@@ -70,7 +71,7 @@ impl<'t> Model for Finder<'t> {
     ghost view = { λ f. record { how = f.patterns.now.0; texts = f.patterns.now.1; spans = f.with_matches } };
 
     ghost invariant = { λ f.
-        ((it : IsSearcherOf f.patterns.now.0 f.patterns.now.1 f.searcher.0) × (f.with_matches ≡ true → IsTreeOf f.patterns.now.0 f.patterns.now.1 it.tree × LoopsRead it.tree))
+        ((it : IsSearcherOf f.patterns.now.0 f.patterns.now.1 f.searcher.pair) × (f.with_matches ≡ true → IsTreeOf f.patterns.now.0 f.patterns.now.1 it.tree × LoopsRead it.tree))
         × (f.slow ≡ f.patterns.now)
         × (f.candidates ≡ f.patterns.now)
         × IfSome f.literals (AreLiteralsOf f.patterns.now.0 f.patterns.now.1)
@@ -82,14 +83,6 @@ fn lacks_memory(error: &MatchError) -> bool {
     match error.kind() {
         MatchErrorKind::NoMemory => true,
         _ => false,
-    }
-}
-
-/// Where a match ends, or the end of the line if there is none.
-fn end_of(found: Option<Span>, end: usize) -> usize {
-    match found {
-        Some(span) => span.end,
-        None => end,
     }
 }
 
@@ -107,7 +100,7 @@ impl<'t> Finder<'t> {
         ensures searches { IfOk result (λ f. SearchesFor f with_matches) }
         ensures refused { IfErr result (IsSearcherError patterns.now.0 patterns.now.1 with_matches) }
     {
-        let searcher = match Searcher::new(alloc, tree) {
+        let searcher = match search_of(alloc, tree) {
             Ok(searcher) => searcher,
             Err(e) => return Err(SearcherError::Build(e)),
         };
@@ -121,8 +114,6 @@ impl<'t> Finder<'t> {
             literals,
             strings: strings_of(alloc, tree, patterns.how().crlf),
             candidates,
-            line_size: Size::first(),
-            past_clears: 0,
             room: Vec::new(alloc),
             reads: 0,
         })
@@ -176,36 +167,6 @@ impl<'t> Finder<'t> {
         self.patterns.how().crlf
     }
 
-    /// Enlarges the caches of the search of lines, if they were cleared too soon and memory suffices.
-    fn grow_searcher(&mut self, alloc: Global)
-        ensures { self.new ≡ self.old }
-    {
-        if let Some(size) = self.line_size.take_larger() {
-            self.enlarge_searcher(alloc, size);
-        }
-    }
-
-    /// Enlarges the caches of the search of lines to this size, if memory suffices.
-    #[inline(never)]
-    fn enlarge_searcher(&mut self, alloc: Global, size: Size)
-        ensures { self.new ≡ self.old }
-    {
-        let clears = self.searcher.clear_count();
-        if let Some(larger) = self.searcher.resized(alloc, size.capacity) {
-            self.searcher = larger;
-            self.line_size = size;
-            self.past_clears = self.past_clears.saturating_add(clears);
-        }
-    }
-
-    /// Records that this many bytes of lines were searched.
-    fn note_lines(&mut self, bytes: usize)
-        ensures { self.new ≡ self.old }
-    {
-        let clears = self.searcher.clear_count();
-        self.line_size.note(bytes, clears);
-    }
-
     /// Returns the next line that may have a match, by the literals. If there are none, this is the line at `at`.
     fn skip_by_literals(&mut self, block: &[u8], at: usize) -> Reached
         requires within { at ≤ length block.now }
@@ -217,7 +178,7 @@ impl<'t> Finder<'t> {
         let Some(literals) = &mut self.literals else {
             return Reached::here(at);
         };
-        literals.next_candidate(block, at, strings)
+        literals.next_with_literal(block, at, strings)
     }
 
     /// Whether the last search for literals stopped in the line that starts at this offset.
@@ -246,10 +207,7 @@ impl<'t> Finder<'t> {
         ensures next { IfOk result (IsNextLine self.old.how self.old.texts block.now at) }
     {
         let end = line_end(block, at);
-        let reached = match self.candidates.next_candidate(alloc, &block[..end], at) {
-            Ok(reached) => reached,
-            Err(e) => return Err(e),
-        };
+        let reached = self.candidates.next_candidate(alloc, &block[..end], at)?;
         if reached.start < end {
             return Ok(reached);
         }
@@ -270,23 +228,17 @@ impl<'t> Finder<'t> {
             return Ok(skipped);
         }
         if self.has_literal_at(at) {
-            let reached = match self.search_line(alloc, block, at) {
-                Ok(reached) => reached,
-                Err(e) => return Err(e),
-            };
+            let reached = self.search_line(alloc, block, at)?;
             return Ok(reached);
         }
-        let reached = match self.candidates.next_candidate(alloc, block, at) {
-            Ok(reached) => reached,
-            Err(e) => return Err(e),
-        };
+        let reached = self.candidates.next_candidate(alloc, block, at)?;
         self.note_blocks(reached.passed);
         Ok(reached)
     }
 
     /// How often the caches of the automata were cleared. The greatest number stands for any number above it.
     pub fn clear_count(&self) -> usize {
-        let clears = self.past_clears.saturating_add(self.searcher.clear_count());
+        let clears = self.searcher.clear_count();
         clears.saturating_add(self.candidates.clear_count())
     }
 
@@ -301,74 +253,22 @@ impl<'t> Finder<'t> {
         self.slow.lines()
     }
 
-    /// Whether the line has a match, by the program.
-    fn has_match_slowly(&mut self, alloc: Global, line: &[u8]) -> Result<bool, Fault>
-        ensures same { self.new ≡ self.old }
-        ensures reported { IfOk result (λ reported. IsMatchReported self.old.how self.old.texts line.now reported) }
-    {
-        let has = match self.slow.has_match(alloc, line) {
-            Ok(has) => has,
-            Err(e) => return Err(e),
-        };
-        Ok(has)
-    }
-
-    /// The matches of the line, by the program.
-    fn matches_slowly(&mut self, alloc: Global, line: &[u8]) -> Result<Vec<Span>, Fault>
-        ensures same { self.new ≡ self.old }
-        ensures reported { IfOk result (λ found. AreReported self.old.how self.old.texts line.now (map span_pair found.items)) }
-    {
-        let found = match self.slow.matches(alloc, line) {
-            Ok(found) => found,
-            Err(e) => return Err(e),
-        };
-        Ok(found)
-    }
-
-    /// Whether the line has a match, by the automata.
-    fn has_match_quickly(&mut self, line: &[u8]) -> Result<bool, MatchError>
-        ensures same { self.new ≡ self.old }
-        ensures reported { IfOk result (λ reported. IsMatchReported self.old.how self.old.texts line.now reported) }
-    {
-        let reported = match self.searcher.has_match(line) {
-            Ok(reported) => reported,
-            Err(e) => return Err(e),
-        };
-        self.note_lines(line.len());
-        Ok(reported)
-    }
-
-    /// The matches of the line, by the automata.
-    fn matches_quickly(&mut self, alloc: Global, line: &[u8]) -> Result<Vec<Span>, MatchError>
-        ensures same { self.new ≡ self.old }
-        ensures reported { self.old.spans ≡ true →
-            IfOk result (λ found. AreReported self.old.how self.old.texts line.now (map span_pair found.items)) }
-    {
-        let found = match self.searcher.matches(alloc, line) {
-            Ok(found) => found,
-            Err(e) => return Err(e),
-        };
-        self.note_lines(line.len());
-        Ok(found)
-    }
-
-    /// Whether the line has a match of some pattern.
+    /// Whether the line has a match of some pattern. If the automata give up, the program reports it.
     pub fn has_match(&mut self, alloc: Global, line: &[u8]) -> Result<bool, Fault>
         ensures same { self.new ≡ self.old }
         ensures reported { IfOk result (λ reported. IsMatchReported self.old.how self.old.texts line.now reported) }
     {
-        self.grow_searcher(alloc);
-        let error = match self.has_match_quickly(line) {
-            Ok(has) => return Ok(has),
+        see_bytes(line);
+        searches_answer_leftmost_whatever_the_loops();
+        let error = match self.searcher.find(&Input::new(line)) {
+            Ok(found) => return Ok(found.is_some()),
             Err(error) => error,
         };
         if lacks_memory(&error) {
             return Err(Fault::NoMemory);
         }
-        match self.has_match_slowly(alloc, line) {
-            Ok(has) => Ok(has),
-            Err(e) => Err(e),
-        }
+        let has = self.slow.has_match(alloc, line)?;
+        Ok(has)
     }
 
     /// The matches of the line, from left to right.
@@ -377,18 +277,20 @@ impl<'t> Finder<'t> {
         ensures reported { self.old.spans ≡ true →
             IfOk result (λ found. AreReported self.old.how self.old.texts line.now (map span_pair found.items)) }
     {
-        self.grow_searcher(alloc);
-        let error = match self.matches_quickly(alloc, line) {
-            Ok(found) => return Ok(found),
+        see_bytes(line);
+        regexes_answer_what_patterns_say();
+        let error = match self.searcher.find_all(alloc, Input::new(line)) {
+            Ok(all) => {
+                let spans = spans_of(alloc, &all)?;
+                return Ok(spans);
+            }
             Err(error) => error,
         };
         if lacks_memory(&error) {
             return Err(Fault::NoMemory);
         }
-        match self.matches_slowly(alloc, line) {
-            Ok(found) => Ok(found),
-            Err(e) => Err(e),
-        }
+        let found = self.slow.matches(alloc, line)?;
+        Ok(found)
     }
 
     /// The line with its matches replaced by what a template writes for them, for patterns that were taken with their groups.
@@ -402,10 +304,7 @@ impl<'t> Finder<'t> {
         ensures reported { IfOk result (λ r.
             AreReplaced self.old.how self.old.texts template.now line.now r.bytes.items (map span_pair r.spans.items)) }
     {
-        let replaced = match self.slow.replaced(alloc, line, template) {
-            Ok(replaced) => replaced,
-            Err(e) => return Err(e),
-        };
+        let replaced = self.slow.replaced(alloc, line, template)?;
         Ok(replaced)
     }
 
@@ -414,39 +313,6 @@ impl<'t> Finder<'t> {
         ensures { result ≡ self.now.spans }
     {
         self.with_matches
-    }
-
-    /// The span of the match from an offset of the line on, by the program.
-    fn find_slowly(
-        &mut self,
-        alloc: Global,
-        line: &[u8],
-        start: usize,
-    ) -> Result<Option<Span>, Fault>
-        requires { start ≤ length line.now }
-        ensures same { self.new ≡ self.old }
-        ensures reported { IfOk result (λ found. IsFoundSpan self.old.how self.old.texts line.now start (option_map span_pair found)) }
-    {
-        let found = match self.slow.find_from(alloc, line, start) {
-            Ok(found) => found,
-            Err(e) => return Err(e),
-        };
-        Ok(found)
-    }
-
-    /// The span of the match from an offset of the line on, by the automata.
-    fn find_quickly(&mut self, line: &[u8], start: usize) -> Result<Option<Span>, MatchError>
-        requires { start ≤ length line.now }
-        ensures same { self.new ≡ self.old }
-        ensures reported { self.old.spans ≡ true →
-            IfOk result (λ found. IsFoundSpan self.old.how self.old.texts line.now start (option_map span_pair found)) }
-    {
-        let found = match self.searcher.find_from(line, start) {
-            Ok(found) => found,
-            Err(e) => return Err(e),
-        };
-        self.note_lines(end_of(found, line.len()).saturating_sub(start));
-        Ok(found)
     }
 
     /// The span of the leftmost match that starts at an offset of the line or after it.
@@ -461,18 +327,17 @@ impl<'t> Finder<'t> {
         ensures reported { self.old.spans ≡ true →
             IfOk result (λ found. IsFoundSpan self.old.how self.old.texts line.now start (option_map span_pair found)) }
     {
-        self.grow_searcher(alloc);
-        let error = match self.find_quickly(line, start) {
-            Ok(found) => return Ok(found),
+        see_bytes(line);
+        regexes_answer_what_patterns_say();
+        let error = match self.searcher.find(&search_from(line, start)) {
+            Ok(found) => return Ok(span_of(found)),
             Err(error) => error,
         };
         if lacks_memory(&error) {
             return Err(Fault::NoMemory);
         }
-        match self.find_slowly(alloc, line, start) {
-            Ok(found) => Ok(found),
-            Err(e) => Err(e),
-        }
+        let found = self.slow.find_from(alloc, line, start)?;
+        Ok(found)
     }
 
     /// The next span of the line after one that ended at this offset. An empty span there is skipped.
@@ -489,19 +354,14 @@ impl<'t> Finder<'t> {
         if end > line.len() {
             return Ok(None);
         }
-        let next = match self.find_from(alloc, line, end) {
-            Ok(next) => next,
-            Err(e) => return Err(e),
-        };
+        let next = self.find_from(alloc, line, end)?;
         if !ends_at(next, end) {
             return Ok(next);
         }
         if end >= line.len() {
             return Ok(None);
         }
-        match self.find_from(alloc, line, end + 1) {
-            Ok(next) => Ok(next),
-            Err(e) => Err(e),
-        }
+        let later = self.find_from(alloc, line, end + 1)?;
+        Ok(later)
     }
 }

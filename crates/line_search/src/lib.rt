@@ -6,7 +6,6 @@
 //! (`Searchers.antt`), so none shows which of its searches found it.
 #![tactic(auto)]
 
-mod block_search;
 mod bounded;
 mod candidate_finder;
 mod candidates;
@@ -19,7 +18,6 @@ mod finder;
 mod joining;
 pub mod laws;
 mod line_patterns;
-mod listing;
 mod literal_lines;
 mod parsed_patterns;
 mod pattern_groups;
@@ -28,7 +26,6 @@ mod plain_patterns;
 mod regexes;
 mod replacing;
 mod searcher;
-mod sizes;
 mod slow_search;
 mod strings;
 

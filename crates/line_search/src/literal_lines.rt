@@ -7,9 +7,9 @@ ghost use Rattle.line_search.specs.declared.patterns.PatternOptions.{PatternOpti
 
 use crate::candidates::{Reached, line_start};
 use crate::feeds::feed_at;
-use crate::searcher::see_bytes;
 use crate::strings::has_any_string_at;
 use hir_core::Hir;
+use hir_regex::see_bytes;
 use line_trees::{has_crlf, line_tree};
 use literal_search::{CandidateFinder, Effort};
 use std::alloc::Global;
@@ -102,7 +102,7 @@ impl LiteralLines {
     /// Returns the start of the next line of a block that may have a match since the search for literals stops there, or the end of the
     /// block if none may. The line is known to have a match if the search stops at one of the strings. If it stopped in this line before, or
     /// doesn't pay, this is the line at `at`.
-    pub(crate) fn next_candidate(
+    pub(crate) fn next_with_literal(
         &mut self,
         block: &[u8],
         at: usize,

@@ -18,8 +18,8 @@ ghost use Rattle.line_search.specs.Searchers.{AreReplaced};
 
 use crate::fault::Fault;
 use crate::pattern_groups::PatternGroups;
-use crate::searcher::see_bytes;
 use group_finder::NO_OFFSET;
+use hir_regex::see_bytes;
 use pattern_fallback::ends_at;
 use regex_meta::Searcher;
 use search_types::Span;

@@ -3,3 +3,4 @@ pub mod ClassLemmas
 pub mod StandLemmas
 pub mod RequiredLemmas
 pub mod SearchLemmas
+pub mod PairLemmas

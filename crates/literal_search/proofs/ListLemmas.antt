@@ -59,6 +59,9 @@ prefix_of_itself ls bytes m = record { prefix = bytes; listed = m; begins = rest
 pub prefixes_of_keeps : (old new : List (List ℕ)) → KeepsAll old new → ListsPrefixes old new
 prefixes_of_keeps old new k = record { prefixes = λ l m. prefix_of_itself new l (k.keeps l m) }
 
+pub prefixes_of_itself : (ls : List (List ℕ)) → ListsPrefixes ls ls
+prefixes_of_itself ls = record { prefixes = λ l m. prefix_of_itself ls l m }
+
 -- ---- loops
 
 pub keeps_more : (xs old new : List (List ℕ)) (m n : ℕ) → m + 1 ≡ n → m < length xs → KeepsAll (drop n xs) old → KeepsAll old new →

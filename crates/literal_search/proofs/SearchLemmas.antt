@@ -1,5 +1,5 @@
 -- Searches for literals, and which spans they skip.
-use Rattle.std.proofs.Common.{◌≡◌, ◌≢◌, inl, inr, ℕ, ◌+◌, ◌-◌, ◌<◌, ◌≤◌, List, ◌++◌, length, get_or, take, drop, Some, slice_get, []}
+use Rattle.std.proofs.Common.{◌≡◌, ◌≢◌, inl, inr, ℕ, ◌+◌, ◌-◌, ◌<◌, ◌≤◌, List, ◌∷◌, ◌++◌, length, get_or, take, drop, Some, slice_get, []}
 use Rattle.std.proofs.Common.{refl, sym, ap, subst, ◌∙◌, arith}
 use Rattle.std.proofs.Math.Seq.{take-append_seam}
 use Rattle.std.proofs.lemmas.List.{take-append-drop}
@@ -10,11 +10,16 @@ use Rattle.hir_core.specs.Tree.{Tree}
 use Rattle.hir_core.specs.Means.{Looks}
 use Rattle.hir_core.specs.PreferredEnds.{preferred_ends}
 use Rattle.hir_core.proofs.ForCallers.{span_within, nil_from_none, preferred_ends_sound}
-use Rattle.literal_search.specs.Literals.{BeginsBy}
+use Rattle.literal_search.specs.Literals.{BeginsBy, ListsPrefixes}
+use Rattle.literal_search.specs.Required.{IsRequired}
+use Rattle.literal_search.specs.declared.required.Required.{Required}
 use Rattle.literal_search.specs.Searches.{NoneBegins, AdvancesTo, EndsFrom, StartsFrom, StartsNowhere, IsContainedIn}
-use Rattle.literal_search.specs.Searches.{IsBegunBy}
+use Rattle.literal_search.specs.Searches.{IsBegunBy, IsLiteralStop, IsNear}
+use Rattle.literal_search.specs.declared.pair.Near.TheVariants.{At as NearAt, Passed}
+use Rattle.literal_search.specs.declared.searching.Stop.{Stop}
+use Rattle.literal_search.specs.declared.searching.Stop.TheVariants.{At, Tired, Missing}
 use Rattle.literal_search.proofs.ListLemmas.{listed_number, listed_at}
-use Rattle.literal_search.proofs.StandLemmas.{stands_rest, rest_stands}
+use Rattle.literal_search.proofs.StandLemmas.{stands_rest, rest_stands, begins_cut}
 
 -- ---- the words of the toolchain's search
 pub occurs_of_begins : (ls : List (List ℕ)) (h : List ℕ) (k : ℕ) → BeginsBy ls h k (length h) → AnyOccursAt h ls k
@@ -53,6 +58,40 @@ stop_of_before ls h i k n = record {
 pub stop_of_first : (ls : List (List ℕ)) (h : List ℕ) (i k n : ℕ) →
     NoneBefore (AnyOccursAt h ls) i (length h + 1) k × FirstNeedleAt h ls k n → AdvancesTo ls h i k × BeginsBy ls h k (length h)
 stop_of_first ls h i k n f = (stop_of_before ls h i k f.0, begins_of_occurs ls h k n f.1.within f.1.occurs)
+
+-- ---- a search for one literal, and one that goes on after it
+zero_of_one : (n : ℕ) → n < 1 → n ≡ 0
+zero_of_one n w = omega (arith, w)
+
+only_occurs : (h l : List ℕ) (k : ℕ) → AnyOccursAt h (l ∷ []) k → OccursAt h l k
+only_occurs h l k o = subst (λ (n : ℕ). OccursAt h (get_or (l ∷ []) n []) k) (zero_of_one o.0 o.1) o.2
+
+none_of_only : (h l : List ℕ) (i j : ℕ) → Nowhere (OccursAt h l) i j → NoneBegins (l ∷ []) h i j
+none_of_only h l i j n = none_of_nowhere (l ∷ []) h i j (λ k low high o. n k low high (only_occurs h l k o))
+
+pub stop_of_near : (h l : List ℕ) (i k : ℕ) → IsNear l h i (NearAt k) → AdvancesTo (l ∷ []) h i k × BeginsBy (l ∷ []) h k (length h)
+stop_of_near h l i k n = (
+  record { from = n.0; within = omega (arith, n.2.fits); none = none_of_only h l i k n.1 },
+  begins_of_occurs (l ∷ []) h k 0 (omega arith) n.2,
+)
+
+none_then : (ls : List (List ℕ)) (h : List ℕ) (i j k : ℕ) → NoneBegins ls h i j → NoneBegins ls h j k → NoneBegins ls h i k
+none_then ls h i j k first second = record {
+  none = λ p low high. elim (cases_lt p j) [
+    | inl before ↦ first.none p low before
+    | inr after ↦ second.none p after high
+  ];
+}
+
+-- what another search stops at from where the first one ended is where the search from its start stops
+pub stop_after : (h l : List ℕ) (i k : ℕ) → IsNear l h i (Passed k) → (s : Stop) → IsLiteralStop (l ∷ []) h k s → IsLiteralStop (l ∷ []) h i s
+stop_after h l i k n (At p) s =
+    (record { from = omega (arith, n.0, s.0.from); within = s.0.within; none = none_then (l ∷ []) h i k p (none_of_only h l i k n.2) s.0.none }, s.1)
+stop_after h l i k n (Tired p) s = (
+  omega (arith, n.0, s.0),
+  record { from = omega (arith, n.0, s.1.from); within = s.1.within; none = none_then (l ∷ []) h i k p (none_of_only h l i k n.2) s.1.none },
+)
+stop_after h l i k n Missing s = none_then (l ∷ []) h i k (length h + 1) (none_of_only h l i k n.2) s
 
 -- ---- spans
 
@@ -96,6 +135,10 @@ no_span_begins ls x h i n c = record {
       let end = span_within looks h x s e within m in
       n.none s low (omega (arith, within)) (to_the_end ls h s e end (c.begun looks h s e m));
 }
+
+-- spans that begin with a literal begin with its prefix
+pub begun_cut : (required : Required) (new : List (List ℕ)) (x : Tree) → IsRequired required x → ListsPrefixes required.begins new → IsBegunBy new x
+begun_cut required new x r p = record { begun = λ looks h i j m. begins_cut required.begins new h i j p (r.describes looks h i j m).begins }
 
 -- a span without a line feed that reaches into a line starts in it, or after it
 pub starts_in_the_line : (h : List ℕ) (start k s e : ℕ) → (0 < start → slice_get h (start - 1) ≡ Some 10) → start ≤ k → k ≤ e →

@@ -3,6 +3,9 @@ use Rattle.std.specs.Prelude.{ℕ, ◌+◌, ◌<◌, ◌≤◌, List, length, Op
 use Rattle.hir_core.specs.Tree.{Tree}
 use Rattle.hir_core.specs.Means.{Looks, Means}
 use Rattle.literal_search.specs.Literals.{BeginsBy, ContainsOne}
+use Rattle.regex_literal.specs.Find.{Nowhere, OccursAt}
+use Rattle.literal_search.specs.declared.pair.Near.{Near}
+use Rattle.literal_search.specs.declared.pair.Near.TheVariants.{At as NearAt, Passed}
 use Rattle.literal_search.specs.declared.searching.Stop.{Stop}
 use Rattle.literal_search.specs.declared.searching.Stop.TheVariants.{At, Tired, Missing}
 
@@ -28,6 +31,12 @@ abbrev pub AdvancesToStop : List (List ℕ) → List ℕ → ℕ → Stop → Ty
 AdvancesToStop ls h i (At k) = AdvancesTo ls h i k
 AdvancesToStop ls h i (Tired k) = AdvancesTo ls h i k
 AdvancesToStop ls h i Missing = NoneBegins ls h i (length h + 1)
+
+-- What a search for one literal from i on returns that may end early: the first offset at which it begins, or an offset before which it
+-- doesn't.
+abbrev pub IsNear : List ℕ → List ℕ → ℕ → Near → Type 0
+IsNear l h i (NearAt k) = (i ≤ k) × Nowhere (OccursAt h l) i k × OccursAt h l k
+IsNear l h i (Passed k) = (i ≤ k) × (k ≤ length h) × Nowhere (OccursAt h l) i k
 
 -- each span of the tree that starts from i on, at an offset of h, ends at k or after it
 pub record EndsFrom (x : Tree) (h : List ℕ) (i k : ℕ) : Type 0 where

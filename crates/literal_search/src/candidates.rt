@@ -6,7 +6,7 @@ ghost use Rattle.literal_search.specs.Searches.{IsBegunBy, IsContainedIn, IsNext
 use crate::literals::Literals;
 use crate::required::{literals_of_all, required_literals};
 use crate::searching::{LiteralSearch, Stop};
-use crate::sets::cost;
+use crate::sets::{cost, or_shared_prefix};
 use hir_core::Hir;
 use std::alloc::{AllocError, Global};
 use std::marker::Model;
@@ -138,7 +138,7 @@ impl CandidateFinder {
         ensures { IfOk result (λ made. IfSome made (λ f. IsBegunBy f tree.now)) }
     {
         let required = required_literals(alloc, tree)?;
-        match finder_of(alloc, required.begins)? {
+        match finder_of(alloc, or_shared_prefix(alloc, required.begins)?)? {
             Some(finder) => Ok(Some(finder)),
             None => Ok(None),
         }
@@ -152,13 +152,14 @@ impl CandidateFinder {
         ensures { IfOk result (λ made. IfSome made (λ f. IsBegunBy f (alternation trees.now))) }
     {
         let all = literals_of_all(alloc, trees)?;
-        match finder_of(alloc, all.begins)? {
+        match finder_of(alloc, or_shared_prefix(alloc, all.begins)?)? {
             Some(finder) => Ok(Some(finder)),
             None => Ok(None),
         }
     }
 
     /// Searches for the literals from an offset on, unless that didn't pay before.
+    #[inline(always)]
     fn stop_from(&self, effort: &mut Effort, haystack: &[u8], from: usize) -> Stop
         requires { from ≤ length haystack.now }
         ensures { AdvancesToStop self.now haystack.now from result }

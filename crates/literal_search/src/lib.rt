@@ -8,8 +8,10 @@
 mod budget;
 mod candidates;
 mod classes;
+mod lanes;
 pub mod laws;
 mod literals;
+mod pair;
 mod required;
 mod searching;
 mod sets;

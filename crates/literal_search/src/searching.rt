@@ -3,6 +3,7 @@ ghost use Rattle.std.specs.Prelude.{◌≡◌, ◌≤◌, length, IfOk, IfSome};
 ghost use Rattle.literal_search.specs.Searches.{IsLiteralStop};
 
 use crate::literals::Literals;
+use crate::pair::{Near, PairSearch};
 use regex_literal::{Bounded, Prefilter};
 use std::alloc::{AllocError, Global};
 use std::marker::Model;
@@ -22,14 +23,18 @@ pub enum Stop {
 #[derive(Drop)]
 pub struct LiteralSearch {
     filter: Prefilter,
+    /// A search for the only literal by two of its bytes. It takes less to begin than the other one.
+    pair: Option<PairSearch>,
 }
 
 impl Model for LiteralSearch {
-    ghost use Rattle.std.specs.Prelude.{ℕ, List};
+    ghost use Rattle.std.specs.Prelude.{◌≡◌, ◌∷◌, [], ℕ, IfSome, List};
 
     ghost Value = { List (List ℕ) };
 
     ghost view = { λ s. s.filter };
+
+    ghost invariant = { λ s. IfSome s.pair (λ p. s.filter ≡ p.literal.items ∷ []) };
 }
 
 impl LiteralSearch {
@@ -38,15 +43,16 @@ impl LiteralSearch {
     pub fn new(alloc: Global, literals: Literals) -> Result<Option<LiteralSearch>, AllocError>
         ensures { IfOk result (λ made. IfSome made (λ s. s ≡ literals)) }
     {
+        let pair = PairSearch::new(alloc, &literals)?;
         match Prefilter::new(alloc, literals.into_items())? {
-            Some(filter) => Ok(Some(LiteralSearch { filter })),
+            Some(filter) => Ok(Some(LiteralSearch { filter, pair })),
             None => Ok(None),
         }
     }
 
-    /// The first offset from `from` on at which one of the literals begins. A search that meets many offsets where one almost does returns
-    /// the offset up to which it came.
-    pub fn find_at(&self, haystack: &[u8], from: usize) -> Stop
+    /// A search for the first literal by the toolchain's filter.
+    #[inline(always)]
+    fn filter_at(&self, haystack: &[u8], from: usize) -> Stop
         requires { from ≤ length haystack.now }
         ensures { IsLiteralStop self.now haystack.now from result }
     {
@@ -54,6 +60,22 @@ impl LiteralSearch {
             Bounded::Found(at, _) => Stop::At(at),
             Bounded::Missing => Stop::Missing,
             Bounded::Tired(at) => Stop::Tired(at),
+        }
+    }
+
+    /// The first offset from `from` on at which one of the literals begins. A search that meets many offsets where one almost does returns
+    /// the offset up to which it came.
+    #[inline(always)]
+    pub fn find_at(&self, haystack: &[u8], from: usize) -> Stop
+        requires { from ≤ length haystack.now }
+        ensures { IsLiteralStop self.now haystack.now from result }
+    {
+        let Some(pair) = &self.pair else {
+            return self.filter_at(haystack, from);
+        };
+        match pair.find(haystack, from) {
+            Near::At(at) => Stop::At(at),
+            Near::Passed(at) => self.filter_at(haystack, at),
         }
     }
 

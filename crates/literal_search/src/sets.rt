@@ -238,6 +238,42 @@ pub(crate) fn cost(literals: &Literals) -> u64 {
     total
 }
 
+/// How many bytes both begin with alike.
+fn shared_len(first: &[u8], second: &[u8]) -> usize {
+    let most = first.len().min(second.len());
+    for k in 0..most {
+        if first[k] != second[k] {
+            return k;
+        }
+    }
+    most
+}
+
+/// How many bytes all literals begin with alike.
+fn len_of_shared_prefix(literals: &Literals) -> usize {
+    if literals.len() == 0 {
+        return 0;
+    }
+    let mut len = literals.get(0).len();
+    for n in 0..literals.len() {
+        len = len.min(shared_len(literals.get(0), literals.get(n)));
+    }
+    len
+}
+
+/// The list, or the prefix that all its literals share, if that is less costly to search for.
+#[tactic(auto, using(crate::proofs::ListLemmas::prefixes_of_itself))]
+pub(crate) fn or_shared_prefix(alloc: Global, literals: Literals) -> Result<Literals, AllocError>
+    ensures { IfOk result (λ r. ListsPrefixes literals r) }
+{
+    if literals.len() < 2 {
+        return Ok(literals);
+    }
+    let len = len_of_shared_prefix(&literals);
+    let prefix = cut(alloc, &literals, len)?;
+    Ok(rarer(literals, prefix))
+}
+
 /// The list that is less costly to search for.
 pub(crate) fn rarer(first: Literals, second: Literals) -> Literals
     ensures { (result ≡ first) ⊎ (result ≡ second) }

@@ -24,7 +24,7 @@ pub(crate) struct EventTask<'a> {
 }
 
 /// How far the events of a text were made.
-#[derive(Clone, Copy, Debug, PartialEq, Eq)]
+#[derive(Clone, Copy)]
 pub(crate) struct EventProgress {
     /// The offset of the next line.
     pub at: usize,

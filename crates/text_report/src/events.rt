@@ -15,7 +15,7 @@ use search_types::Span;
 use std::alloc::{AllocError, Global};
 
 /// How many lines and matches are selected, and the offset after the last line that is printed, or 0.
-#[derive(Clone, Copy, Debug, PartialEq, Eq)]
+#[derive(Clone, Copy)]
 pub(crate) struct Counts {
     pub lines: u64,
     pub matches: u64,

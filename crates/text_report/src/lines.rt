@@ -4,7 +4,7 @@ ghost use Rattle.std.specs.List.{position};
 ghost use Rattle.text_report.specs.LineSpans.{IsLineAt, lines_from, whole_end};
 
 /// A line of a text.
-#[derive(Clone, Copy, Debug, PartialEq, Eq)]
+#[derive(Clone, Copy)]
 pub struct LineSpan {
     /// Its number, counted from 1.
     pub number: u64,

@@ -10,7 +10,7 @@ use line_search::Fault;
 use search_types::Span;
 
 /// Where the next line of a text begins.
-#[derive(Clone, Copy, Debug, PartialEq, Eq)]
+#[derive(Clone, Copy)]
 pub struct TextPosition {
     /// Its number, counted from 1.
     pub number: u64,
@@ -21,7 +21,7 @@ pub struct TextPosition {
 }
 
 /// A line of a text, and whether a match counts for it.
-#[derive(Clone, Copy, Debug, PartialEq, Eq)]
+#[derive(Clone, Copy)]
 pub struct SeenLine {
     pub line: LineSpan,
     /// The index of a match. Those before it are before the line.

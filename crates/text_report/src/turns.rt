@@ -9,7 +9,7 @@ ghost use Rattle.text_report.specs.EventCourse.{KnowsNext, gap, roles_left};
 use grep_core::{OutputOptions, Role};
 
 /// How far the roles of lines were taken.
-#[derive(Clone, Copy, Debug, PartialEq, Eq)]
+#[derive(Clone, Copy)]
 pub(crate) struct Turn {
     /// The index of the next line.
     pub index: usize,

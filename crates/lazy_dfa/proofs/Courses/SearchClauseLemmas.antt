@@ -26,12 +26,12 @@ use Rattle.lazy_dfa.specs.HalfSearchLaws.{begins_at, scans_made, units_in_scans,
 use Rattle.lazy_dfa.specs.HalfSearches.{half_search}
 use Rattle.lazy_dfa.specs.SearchAnswers.{pair_of, reported, GivesUpIn, at_start, at_unit, GivesUpAmong, Answers, progress_of}
 use Rattle.lazy_dfa.specs.SearchAnswers.{progress_by}
-use Rattle.lazy_dfa.specs.SearchAnswers.{made_by, FindsDownTo, FindsUpTo, IsFoundDownTo, IsFoundUpTo}
+use Rattle.lazy_dfa.specs.SearchAnswers.{made_by, FindsDownTo, FindsUpTo, FindsWanted, IsFoundDownTo, IsFoundUpTo}
 use Rattle.lazy_dfa.specs.SearchPromises.{AnswersHalf, CountsHalf, LeavesCache, ReportsHalf, half_made}
 use Rattle.lazy_dfa.specs.Steps.{most_inserts}
 use Rattle.lazy_dfa.specs.Changes.{Changes, IsMadeBy}
 use Rattle.lazy_dfa.proofs.Courses.AnswerLemmas.{ok_is_told, ok_is_found}
-use Rattle.lazy_dfa.proofs.HalfSearches.HasReachLemmas.{scan_has_reach, scan_has_reach_back}
+use Rattle.lazy_dfa.proofs.HalfSearches.HasReachLemmas.{finds_wanted, scan_has_reach, scan_has_reach_back}
 use Rattle.lazy_dfa.proofs.CacheChanges.LinkedLemmas.{not_cleared}
 use Rattle.lazy_dfa.proofs.HalfSearches.ScanLemmas.{scan_finds_near}
 
@@ -202,10 +202,13 @@ found_where P d q new (Ok f) finds answers =
 module _ (d : Dfa) (q : Search) (new : CacheValue) (result : Result (Option HalfFound) MatchErrorKind) (made : IsDfa d)
     (within : q.end ≤ length q.haystack)
     (answers : Answers d new q result) where
+  wanted_end : (o : Option (ℕ × ℕ)) → half_search (reader d) q ≡ found o → FindsWanted (reader d) q o
+  wanted_end o is = finds_wanted (reader d) q o made.sound within is
+
   pub finds_up_to : d.nfa.automaton.reverse ≡ false → FindsUpTo (reader d) q result
-  finds_up_to up = found_where (λ o. (end : ℕ) × IsFoundUpTo (reader d) q o end) d q new result
-      (λ o is. let reach = scan_has_reach (reader d) q o up made.sound within is in (reach.0, reach.1.finds)) answers
+  finds_up_to up = found_where (λ o. FindsWanted (reader d) q o × ((end : ℕ) × IsFoundUpTo (reader d) q o end)) d q new result
+      (λ o is. let reach = scan_has_reach (reader d) q o up made.sound within is in (wanted_end o is, (reach.0, reach.1.finds))) answers
 
   pub finds_down_to : d.nfa.automaton.reverse ≡ true → FindsDownTo (reader d) q result
-  finds_down_to back = found_where (λ o. (begin : ℕ) × IsFoundDownTo (reader d) q o begin) d q new result
-      (λ o is. let reach = scan_has_reach_back (reader d) q o back within is in (reach.0, reach.1.finds)) answers
+  finds_down_to back = found_where (λ o. FindsWanted (reader d) q o × ((begin : ℕ) × IsFoundDownTo (reader d) q o begin)) d q new result
+      (λ o is. let reach = scan_has_reach_back (reader d) q o back within is in (wanted_end o is, (reach.0, reach.1.finds))) answers

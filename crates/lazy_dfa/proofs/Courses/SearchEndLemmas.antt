@@ -1,7 +1,7 @@
 -- How a half search goes on, and how it ends, by the result of its next scan.
 use Rattle.std.proofs.Common.{◌≡◌, ℕ, ◌+◌, ◌-◌, ◌<◌, ◌≤◌, Bool, true, false, not, List, [], ◌∷◌, ◌++◌, Option, Some, None, refl, sym, ap}
 use Rattle.std.proofs.Common.{◌∙◌, ⊎_elim, subst, arith, true≢false}
-use Rattle.std.specs.Prelude.{Ok, Err, IsTrue, ◌↔◌}
+use Rattle.std.specs.Prelude.{Result, Ok, Err, IsTrue, ◌↔◌}
 use Rattle.std.proofs.lemmas.Bool.{cases_lt}
 use Rattle.std.proofs.lemmas.List.{append_assoc, append-nil}
 use Rattle.search_core.specs.Utf8.{is_boundary}
@@ -25,7 +25,7 @@ use Rattle.lazy_dfa.proofs.Courses.PassListLemmas.{first_pass, first_answer, fir
 use Rattle.lazy_dfa.proofs.Courses.PassListLemmas.{anchored_once}
 use Rattle.lazy_dfa.proofs.Courses.PassListLemmas.{anchored_scan, lowest_once, lowest_scan, passes_begin, passes_anew, scan_anew}
 use Rattle.lazy_dfa.proofs.HalfSearches.ScanLemmas.{scan_done}
-use Rattle.lazy_dfa.proofs.Courses.SearchLemmas.{HasMade, HasCome, makes_one, fails_here, finishes}
+use Rattle.lazy_dfa.proofs.Courses.SearchLemmas.{HasMade, HasCome, begins, makes_one, fails_here, finishes}
 
 -- ---- what the tests show
 
@@ -164,3 +164,18 @@ module _ (d : Dfa) (q t : Search) (old now next : CacheValue) (m1 m2 m3 n1 n2 n3
             u ≡ with_span t.start (t.end - 1) t →
             HasCome d q u old next m1 m3 n1 n3
         goes_reverse a is_reverse some u same = goes_on a true is_reverse (λ is. some) u same
+
+-- ---- one scan
+
+module _ (d : Dfa) (q : Search) (old next : CacheValue) (m1 m2 n1 n2 : ℕ) (fit : IsDfa d) (own : IsCacheOf d old)
+    (bytes : AreBytes q.haystack) (fits : q.start ≤ q.end) (each : (reader d).between_characters ≡ false) where
+  -- if every end counts, a half search is its first scan
+  pub once_ends : (result : Result (Option HalfFound) MatchErrorKind) → MakesScan d q old next m1 m2 n1 n2 result →
+      MakesSearch d q old next m1 m2 n1 n2 result
+  once_ends (Err x) made =
+      fails d q q old old next m1 m1 m2 n1 n1 n2 fit own own bytes (begins d q q old m1 n1 refl) fits x made
+  once_ends (Ok None) made =
+      none_ends d q q old old next m1 m1 m2 n1 n1 n2 fit own own bytes (begins d q q old m1 n1 refl) fits None made refl
+  once_ends (Ok (Some half)) made =
+      counted_ends d q q old old next m1 m1 m2 n1 n1 n2 fit own own bytes (begins d q q old m1 n1 refl) fits (Some half) made half refl
+      (each_counts (reader d).between_characters q.haystack half.offset each)

@@ -13,10 +13,10 @@ use Rattle.lazy_dfa.specs.Scans.{start_name}
 use Rattle.lazy_dfa.specs.Readers.{Reader, found}
 use Rattle.lazy_dfa.specs.HalfSearchLaws.{IsReached, IsInReach, begins_at, scan_len, ReadsAlike}
 use Rattle.lazy_dfa.specs.HalfSearches.{first_offset, half_search}
-use Rattle.lazy_dfa.specs.SearchAnswers.{IsFoundUpTo, IsFoundDownTo, IsReachOf, HasReach, IsReachBack, HasReachBack}
-use Rattle.lazy_dfa.proofs.HalfSearches.FoundLemmas.{scan_finds_first}
+use Rattle.lazy_dfa.specs.SearchAnswers.{FindsWanted, IsFoundUpTo, IsFoundDownTo, IsReachOf, HasReach, IsReachBack, HasReachBack}
+use Rattle.lazy_dfa.proofs.HalfSearches.FoundLemmas.{scan_finds, scan_finds_first}
 use Rattle.lazy_dfa.proofs.HalfSearches.IntervalReachLemmas.{scan_by_reach, scan_is_quiet, scan_place_is_reached, reach_is_near}
-use Rattle.lazy_dfa.proofs.HalfSearches.ReachLemmas.{scan_few}
+use Rattle.lazy_dfa.proofs.HalfSearches.ReachLemmas.{no_pattern, scan_few}
 use Rattle.lazy_dfa.proofs.HalfSearches.ScanLemmas.{scan_done, le_or_done}
 use Rattle.lazy_dfa.proofs.HalfSearches.TurnLemmas.{one_found}
 use Rattle.nfa_core.proofs.ForCallers.{some_same}
@@ -72,6 +72,16 @@ module _ (r : Reader) (q : Search) (o : Option (ℕ × ℕ)) (is : half_search r
 
   done_anywhere : (g : List ℕ) → half_search r (record q { haystack = g }) ≡ found o
   done_anywhere g = scan_done r (record q { haystack = g }) past ∙ ap found none_is
+
+-- ---- the end that is found
+
+pub finds_wanted : (r : Reader) (q : Search) (o : Option (ℕ × ℕ)) → IsSound r.automaton → q.end ≤ length q.haystack →
+    half_search r q ≡ found o → FindsWanted r q o
+finds_wanted r q o sound within is = record {
+  wanted = λ name fits named. scan_finds r q name sound.named fits within named (start_is_state r.automaton q.anchored name sound named) o is;
+  no_pattern = λ none. no_pattern r q o none is;
+  done = λ past. sym (none_is r q o is past);
+}
 
 -- ---- reaches
 

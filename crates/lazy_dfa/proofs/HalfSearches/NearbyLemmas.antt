@@ -55,13 +55,13 @@ module _ (r : Reader) (h : List ℕ) (s e : ℕ) where
       one_less : (i x : ℕ) → x ≡ suc i - 1 → x ≡ i
       one_less i x is = omega (arith, is)
 
-  none_behind : (is_reverse : Bool) (n i : ℕ) → HasNoQuitNear r h s e → Fits is_reverse s e n i →
+  pub none_behind : (is_reverse : Bool) (n i : ℕ) → HasNoQuitNear r h s e → Fits is_reverse s e n i →
       is_quit r.quits (unit_before is_reverse h i) ≡ false
   none_behind false n zero none fit = refl
   none_behind false n (suc i) none fit = none i (omega (arith, fit.1)) (omega (arith, fit.0))
   none_behind true n i none fit = none i (omega (arith, fit.0)) (omega (arith, fit.1))
 
-  none_at : (is_reverse : Bool) (n i k j : ℕ) → HasNoQuitNear r h s e → Fits is_reverse s e n i → k < suc n → j ≡ offset_of is_reverse i k →
+  pub none_at : (is_reverse : Bool) (n i k j : ℕ) → HasNoQuitNear r h s e → Fits is_reverse s e n i → k < suc n → j ≡ offset_of is_reverse i k →
       is_quit r.quits (unit_at is_reverse h j) ≡ false
   none_at false n i k j none fit l place = none j (omega (arith, place, fit.1)) (omega (arith, place, fit.0, l))
   none_at true n i k zero none fit l place = refl

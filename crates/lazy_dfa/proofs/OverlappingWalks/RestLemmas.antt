@@ -234,7 +234,7 @@ no_quit_mode m b x e = let never : true ≡ false = cc in absurd (grind (arith, 
 pub quit_parts : (b x c y : ℕ) → Quit b x ≡ Quit c y → (b ≡ c) × (x ≡ y)
 quit_parts b x c y e = (cc, cc)
 
-is_no_quit : (quits : List Bool) (u : Option ℕ) (b : ℕ) → u ≡ Some b → has quits b ≡ true → is_quit quits u ≡ false → ⊥
+pub is_no_quit : (quits : List Bool) (u : Option ℕ) (b : ℕ) → u ≡ Some b → has quits b ≡ true → is_quit quits u ≡ false → ⊥
 is_no_quit quits u b e is none = let never : true ≡ false = sym is ∙ sym (ap (is_quit quits) e) ∙ none in absurd (grind (arith, never))
 
 module _ (r : Reader) (q : Search) where

@@ -47,7 +47,7 @@ placed_again : (j : ℕ) (xs : List (ℕ × ℕ)) → map (end_of j) (map patter
 placed_again j [] = refl
 placed_again j (x ∷ xs) = if_placed (is_at j x) j x (filter (is_at j) xs) (λ e. (Decides-eqb x.0 j).0 e) (placed_again j xs)
 
-listed_is : (counted : ℕ → Bool) (j : ℕ) (ms : List ℕ) (ends : List (ℕ × ℕ)) → ms ≡ map pattern (filter (is_at j) ends) →
+pub listed_is : (counted : ℕ → Bool) (j : ℕ) (ms : List ℕ) (ends : List (ℕ × ℕ)) → ms ≡ map pattern (filter (is_at j) ends) →
     listed counted j ms ≡ ends_at counted ends j
 listed_is counted j ms ends e =
     ap (λ (l : List ℕ). if counted j then map (end_of j) l else []) e
@@ -188,7 +188,7 @@ module _ (r : Reader) (q : Search) (name : ℕ) (begun : IsBegun r q name) where
       (offset_of r.automaton.reverse first 0, name))) tt
 
   module _ (wants_all : r.kind ≡ AllMatches) where
-    states_list : (k : ℕ) → k ≤ len →
+    pub states_list : (k : ℕ) → k ≤ len →
         (walk r q.haystack first name (suc k)).matches ≡ map pattern (filter (is_at (offset_of r.automaton.reverse first k)) all_ends)
     states_list k l =
         subst (λ (m : MatchKind). (value_after r.automaton r.terminator m q.haystack first name (suc k)).matches ≡
@@ -197,7 +197,7 @@ module _ (r : Reader) (q : Search) (name : ℕ) (begun : IsBegun r q name) where
         (first_low r.automaton.reverse q.start q.end begun.begun) begun.within begun.inside k (subst (λ (n : ℕ). k ≤ n) (sym left_there) l)
         ∙ ap (λ (l : List (ℕ × ℕ)). map pattern (filter (is_at (offset_of r.automaton.reverse first k)) l)) (sym ends_there))
 
-    first_is : first_value r q.anchored q.haystack first ≡ walk r q.haystack first name 0
+    pub first_is : first_value r q.anchored q.haystack first ≡ walk r q.haystack first name 0
     first_is = ap (λ (o : Option ℕ). start_or_dead r (unit_before r.automaton.reverse q.haystack first) o) begun.start
         ∙ walk_starts r q.haystack first name
 

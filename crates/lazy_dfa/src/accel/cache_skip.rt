@@ -63,6 +63,16 @@ impl Cache {
         }
     }
 
+    /// Records that so many bytes were read one by one. If the credit is used up, enough of them give it some credit again.
+    #[inline(always)]
+    pub(crate) fn rest(&mut self, bytes: usize)
+        ensures { self.new ≡ self.old }
+    {
+        if is_used_up(self.skip.credit) {
+            self.skip = self.skip.after_rest(bytes);
+        }
+    }
+
     /// Notes a state as the one to stop at, if the next byte doesn't leave it.
     #[inline(never)]
     pub(crate) fn look(&mut self, id: LazyStateID, byte: u8)
@@ -82,7 +92,7 @@ impl Cache {
             stop: id,
             leaving,
             behind,
-            credit: self.skip.credit,
+            ..self.skip
         };
     }
 

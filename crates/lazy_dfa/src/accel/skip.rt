@@ -10,7 +10,7 @@
 //! of these next bytes the search may not be back. The search looks for two adjacent bytes: one that leaves, and one of these.
 //!
 //! A skip costs about as much as reading a few bytes. So each skip is paid from a credit, to which it adds the number of bytes
-//! that it skipped. If the credit is used up, a search reads all bytes until the cache is cleared.
+//! that it skipped. If the credit is used up, searches read all bytes for a while, and then get a small credit to try again.
 ghost use Rattle.std.specs.Prelude.{◌≡◌};
 ghost use Rattle.lazy_dfa.specs.Ids.{unknown_id};
 
@@ -27,6 +27,12 @@ const FIRST_CREDIT: usize = 1024;
 /// The greatest credit.
 const MOST_CREDIT: usize = 4096;
 
+/// The number of bytes that searches read one by one once the credit is used up, before they may skip again.
+pub(crate) const REST: usize = 1 << 16;
+
+/// The credit after that: enough for one look at a state that turns out to be unusable, and for some skips.
+const NEXT_CREDIT: usize = 256;
+
 /// A state to stop at.
 #[derive(Clone, Copy)]
 pub(crate) struct Skip {
@@ -37,6 +43,8 @@ pub(crate) struct Skip {
     /// The bytes that, after one of those, may not lead the search back, if they are noted.
     pub(crate) behind: Option<HalfTables>,
     pub(crate) credit: usize,
+    /// How many bytes were read one by one since the credit was used up.
+    pub(crate) rested: usize,
 }
 
 /// The credit after a skip over this many bytes.
@@ -62,6 +70,24 @@ impl Skip {
             leaving: Leaving::Never,
             behind: None,
             credit: FIRST_CREDIT,
+            rested: 0,
+        }
+    }
+
+    /// Returns these notes after so many more bytes were read one by one since the credit was used up.
+    pub(crate) fn after_rest(self, bytes: usize) -> Skip
+        ensures same_stop { result.stop ≡ self.stop }
+        ensures same_leaving { result.leaving ≡ self.leaving }
+        ensures same_behind { result.behind ≡ self.behind }
+    {
+        let rested = self.rested.saturating_add(bytes);
+        if rested < REST {
+            return Skip { rested, ..self };
+        }
+        Skip {
+            credit: NEXT_CREDIT,
+            rested: 0,
+            ..self
         }
     }
 

@@ -16,10 +16,10 @@ use crate::automaton::dfa::{Cache, DFA};
 use crate::lazy_id::LazyStateID;
 use crate::overlapping::overlapping_state::{OverlappingPosition, OverlappingState, Stop};
 use crate::search::passing::{
-    finish_where, index_at, last_offset, next_offset, rejection, run, unit_at,
+    finish_where, index_at, last_offset, next_offset, rejection, unit_at,
 };
 use crate::search::position::Position;
-use crate::search::runs::see_bytes;
+use crate::search::runs::{run, see_bytes};
 use crate::search::scan_steps::{Seen, Turn, make_turn};
 use crate::search::searching::is_between_characters;
 use crate::work::Work;

@@ -19,7 +19,7 @@ use crate::cache_error::CacheError;
 use crate::lazy_id::LazyStateID;
 use crate::search::match_loop::linger;
 use crate::search::position::Position;
-use crate::search::runs::{run_forward, run_reverse, see_bytes};
+use crate::search::runs::{run, see_bytes};
 use crate::search::scan_steps::{Turn, make_turn};
 use crate::work::Work;
 use search_types::{HalfMatch, Input, MatchError, MatchErrorKind};
@@ -131,64 +131,6 @@ pub(crate) fn rejection(err: CacheError, place: usize) -> MatchError
 }
 
 // ---- turns
-
-/// Follows known steps while no state has a tag, up to the last position of the span.
-#[inline(always)]
-pub(crate) fn run(
-    dfa: &DFA,
-    cache: &mut Cache,
-    input: &Input<'_>,
-    is_reverse: bool,
-    position: Position,
-) -> Position
-    requires own { IsCacheOf dfa.now cache.old }
-    requires is_reverse { is_reverse ≡ dfa.now.nfa.automaton.reverse }
-    requires row { IsRow cache.old position.id }
-    requires within { IsWithinSpan input.now position.at }
-    ensures same { cache.new ≡ cache.old }
-    ensures row { IsRow cache.old result.id }
-    ensures within { IsWithinSpan input.now result.at }
-    ensures closer { left_at is_reverse input.now result.at ≤ left_at is_reverse input.now position.at }
-    ensures goes { (earliest : Bool) (m n : ℕ) → GoesBetween dfa.now earliest input.now.haystack
-        (point cache.old m n position.at position.id (pair_of position.best))
-        (point cache.old m n result.at result.id (pair_of result.best))
-        (left_at is_reverse input.now position.at - left_at is_reverse input.now result.at) }
-{
-    if position.id.is_tagged() {
-        return position;
-    }
-    let haystack = input.haystack();
-    if is_reverse {
-        let moved = run_reverse(
-            dfa,
-            cache,
-            haystack,
-            position.id,
-            position.at,
-            input.start(),
-        );
-        return Position {
-            at: moved.at,
-            id: moved.id,
-            best: position.best,
-        };
-    }
-    let is_anchored = input.get_anchored().is_anchored();
-    let moved = run_forward(
-        dfa,
-        cache,
-        haystack,
-        position.id,
-        position.at,
-        input.end(),
-        is_anchored,
-    );
-    Position {
-        at: moved.at,
-        id: moved.id,
-        best: position.best,
-    }
-}
 
 /// Follows known steps after a turn: while no state has a tag, and then through matching states too. This is rarely needed. It is
 /// a function of its own, so that a scan's code has the loops of runs just once.
@@ -492,38 +434,9 @@ fn end_at_first(cache: &mut Cache, input: &Input<'_>, is_reverse: bool)
     cache.search_finish(index);
 }
 
-/// A scan over a whole span, in a direction that its caller knows.
-#[inline(always)]
-fn pass_in<L: Ledger, M: Ledger>(
-    dfa: &DFA,
-    cache: &mut Cache,
-    input: &Input<'_>,
-    is_reverse: bool,
-    work: &mut Work<L, M>,
-) -> Result<Option<HalfMatch>, MatchError>
-    requires own { IsCacheOf dfa.now cache.old }
-    requires is_reverse { is_reverse ≡ dfa.now.nfa.automaton.reverse }
-    requires begun { input.now.start ≤ input.now.end }
-    ensures own { IsCacheOf dfa.now cache.new }
-    ensures scan { MakesScan dfa.now input.now cache.old cache.new work.old.determinized work.new.determinized work.old.inserted
-        work.new.inserted result }
-{
-    dfa.is_made();
-    let id = match start_of_pass(dfa, cache, input, is_reverse, work) {
-        Ok(id) => id,
-        Err(e) => return Err(e),
-    };
-    if id.is_dead() {
-        end_at_first(cache, input, is_reverse);
-        return Ok(None);
-    }
-    begin_at_first(cache, input, is_reverse);
-    go_on(dfa, cache, input, is_reverse, id, work)
-}
-
-/// A scan forward. Its code never tests the direction in which it reads.
+/// A scan forward over a whole span. Its code never tests the direction in which it reads.
 #[inline(never)]
-fn pass_forward<L: Ledger, M: Ledger>(
+pub(crate) fn scan_forward<L: Ledger, M: Ledger>(
     dfa: &DFA,
     cache: &mut Cache,
     input: &Input<'_>,
@@ -536,12 +449,22 @@ fn pass_forward<L: Ledger, M: Ledger>(
     ensures scan { MakesScan dfa.now input.now cache.old cache.new work.old.determinized work.new.determinized work.old.inserted
         work.new.inserted result }
 {
-    pass_in(dfa, cache, input, false, work)
+    dfa.is_made();
+    let id = match start_of_pass(dfa, cache, input, false, work) {
+        Ok(id) => id,
+        Err(e) => return Err(e),
+    };
+    if id.is_dead() {
+        end_at_first(cache, input, false);
+        return Ok(None);
+    }
+    begin_at_first(cache, input, false);
+    go_on(dfa, cache, input, false, id, work)
 }
 
-/// A scan in reverse. Its code never tests the direction in which it reads.
+/// A scan in reverse over a whole span. Its code never tests the direction in which it reads.
 #[inline(never)]
-fn pass_reverse<L: Ledger, M: Ledger>(
+pub(crate) fn scan_reverse<L: Ledger, M: Ledger>(
     dfa: &DFA,
     cache: &mut Cache,
     input: &Input<'_>,
@@ -554,10 +477,20 @@ fn pass_reverse<L: Ledger, M: Ledger>(
     ensures scan { MakesScan dfa.now input.now cache.old cache.new work.old.determinized work.new.determinized work.old.inserted
         work.new.inserted result }
 {
-    pass_in(dfa, cache, input, true, work)
+    dfa.is_made();
+    let id = match start_of_pass(dfa, cache, input, true, work) {
+        Ok(id) => id,
+        Err(e) => return Err(e),
+    };
+    if id.is_dead() {
+        end_at_first(cache, input, true);
+        return Ok(None);
+    }
+    begin_at_first(cache, input, true);
+    go_on(dfa, cache, input, true, id, work)
 }
 
-/// A scan over a whole span.
+/// A scan over a whole span, in the direction of the automaton.
 #[inline(always)]
 pub(crate) fn scan<L: Ledger, M: Ledger>(
     dfa: &DFA,
@@ -574,8 +507,8 @@ pub(crate) fn scan<L: Ledger, M: Ledger>(
         work.new.inserted result }
 {
     if is_reverse {
-        pass_reverse(dfa, cache, input, work)
+        scan_reverse(dfa, cache, input, work)
     } else {
-        pass_forward(dfa, cache, input, work)
+        scan_forward(dfa, cache, input, work)
     }
 }

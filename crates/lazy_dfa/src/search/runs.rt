@@ -1,13 +1,19 @@
 //! Loops over known steps, in which searches spend their time. They only read.
-ghost use Rattle.std.specs.Prelude.{◌≡◌, ℕ, ◌+◌, ◌<◌, ◌≤◌, false, true, length, slice_index_or};
+ghost use Rattle.std.specs.Prelude.{◌≡◌, ℕ, ◌+◌, ◌-◌, ◌<◌, ◌≤◌, Bool, false, true, length, slice_index_or};
 ghost use Rattle.lazy_dfa.specs.Caches.{IsCacheOf, IsRow};
 ghost use Rattle.lazy_dfa.specs.Ids.{tag};
+ghost use Rattle.lazy_dfa.specs.Points.{point};
+ghost use Rattle.lazy_dfa.specs.ScanOffsets.{GoesBetween, IsWithinSpan, left_at};
+ghost use Rattle.lazy_dfa.specs.SearchAnswers.{pair_of};
 ghost use Rattle.lazy_dfa.specs.Stretches.{MovesBackTo, MovesTo};
 
 use crate::accel::accel_rounds::skip_over;
+use crate::accel::skip::REST;
 use crate::automaton::dfa::{Cache, DFA};
 use crate::lazy_id::LazyStateID;
 use crate::search::bytewise::{walk_both, walk_forward};
+use crate::search::position::Position;
+use search_types::Input;
 
 /// The number of bytes that are read before a search skips bytes or runs two loops: a match is often as near as that.
 const FEW: usize = 4;
@@ -181,17 +187,16 @@ fn read_forward(
     read_alone(dfa, cache, haystack, moved, end).moved
 }
 
-/// Follows known steps forward while no state has a tag. It first reads a few bytes. Then an unanchored search skips bytes,
-/// unless that didn't pay off.
+/// Follows known steps forward while no state has a tag, and skips no bytes. It stops after `REST` bytes, so that a search of a long
+/// span may try skips again.
 #[inline(always)]
-pub(crate) fn run_forward(
+fn read_resting(
     dfa: &DFA,
     cache: &mut Cache,
     haystack: &[u8],
     id: LazyStateID,
     from: usize,
     end: usize,
-    is_anchored: bool,
 ) -> Moved
     requires own { IsCacheOf dfa.now cache.old }
     requires is_forward { dfa.now.nfa.automaton.reverse ≡ false }
@@ -202,24 +207,79 @@ pub(crate) fn run_forward(
     ensures same { cache.new ≡ cache.old }
     ensures moves { MovesTo dfa.now cache.old haystack.now (record { at = from; id = id }) end result }
 {
-    dfa.is_made();
-    let near = from + (end - from).min(FEW);
-    let first = walk_forward(dfa, cache, haystack, id, from, near, LazyStateID::unknown());
-    if first.at < near {
-        return Moved {
-            at: first.at,
-            id: first.id,
+    let limit = from + (end - from).min(REST);
+    let moved = read_forward(dfa, cache, haystack, id, from, limit);
+    cache.rest(moved.at - from);
+    moved
+}
+
+/// Follows known steps while no state has a tag, up to the last position of the span. A search forward first reads a few bytes. Then,
+/// unless it is anchored, it skips bytes if that paid off.
+#[inline(always)]
+pub(crate) fn run(
+    dfa: &DFA,
+    cache: &mut Cache,
+    input: &Input<'_>,
+    is_reverse: bool,
+    position: Position,
+) -> Position
+    requires own { IsCacheOf dfa.now cache.old }
+    requires is_reverse { is_reverse ≡ dfa.now.nfa.automaton.reverse }
+    requires row { IsRow cache.old position.id }
+    requires within { IsWithinSpan input.now position.at }
+    ensures same { cache.new ≡ cache.old }
+    ensures row { IsRow cache.old result.id }
+    ensures within { IsWithinSpan input.now result.at }
+    ensures closer { left_at is_reverse input.now result.at ≤ left_at is_reverse input.now position.at }
+    ensures goes { (earliest : Bool) (m n : ℕ) → GoesBetween dfa.now earliest input.now.haystack
+        (point cache.old m n position.at position.id (pair_of position.best))
+        (point cache.old m n result.at result.id (pair_of result.best))
+        (left_at is_reverse input.now position.at - left_at is_reverse input.now result.at) }
+{
+    if position.id.is_tagged() {
+        return position;
+    }
+    let haystack = input.haystack();
+    let id = position.id;
+    let at = position.at;
+    if is_reverse {
+        let moved = run_reverse(dfa, cache, haystack, id, at, input.start());
+        return Position {
+            at: moved.at,
+            id: moved.id,
+            best: position.best,
         };
     }
-    let reads_all = is_anchored || cache.reads_all();
-    if reads_all {
-        return read_forward(dfa, cache, haystack, first.id, first.at, end);
+    dfa.is_made();
+    see_bytes(haystack);
+    let end = input.end();
+    let near = at + (end - at).min(FEW);
+    let first = walk_forward(dfa, cache, haystack, id, at, near, LazyStateID::unknown());
+    if first.at < near {
+        return Position {
+            at: first.at,
+            id: first.id,
+            best: position.best,
+        };
     }
-    skip_forward(dfa, cache, haystack, first.id, first.at, end)
+    if input.get_anchored().is_anchored() || cache.reads_all() {
+        let moved = read_resting(dfa, cache, haystack, first.id, first.at, end);
+        return Position {
+            at: moved.at,
+            id: moved.id,
+            best: position.best,
+        };
+    }
+    let moved = skip_forward(dfa, cache, haystack, first.id, first.at, end);
+    Position {
+        at: moved.at,
+        id: moved.id,
+        best: position.best,
+    }
 }
 
 /// Follows known steps in reverse while no state has a tag.
-pub(crate) fn run_reverse(
+fn run_reverse(
     dfa: &DFA,
     cache: &Cache,
     haystack: &[u8],

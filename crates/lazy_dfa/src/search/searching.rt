@@ -8,7 +8,7 @@ ghost use Rattle.lazy_dfa.specs.SearchAnswers.{FindsDownTo, FindsUpTo};
 ghost use Rattle.lazy_dfa.specs.SearchPromises.{AnswersHalf, CountsHalf, LeavesCache, ReportsHalf};
 
 use crate::automaton::dfa::{Cache, DFA};
-use crate::search::passing::scan;
+use crate::search::passing::{scan, scan_forward, scan_reverse};
 use crate::search::runs::see_bytes;
 use crate::work::Work;
 use search_types::{HalfMatch, Input, MatchError};
@@ -40,7 +40,8 @@ pub(crate) fn is_between_characters(dfa: &DFA) -> bool
     nfa.is_utf8() && nfa.has_empty()
 }
 
-/// A half search: one scan, and as long as its end doesn't count another one over a byte less.
+/// A half search whose ends may not count: while the end of a scan doesn't, another scan follows over a byte less. It makes no scan if
+/// it is done.
 #[inline(never)]
 fn search_again<L: Ledger, M: Ledger>(
     dfa: &DFA,
@@ -90,41 +91,6 @@ fn search_again<L: Ledger, M: Ledger>(
     Ok(None)
 }
 
-/// A half search: one scan if every end counts, and otherwise as many as it takes.
-#[inline(always)]
-fn search<L: Ledger, M: Ledger>(
-    dfa: &DFA,
-    cache: &mut Cache,
-    input: &Input<'_>,
-    is_reverse: bool,
-    work: &mut Work<L, M>,
-) -> Result<Option<HalfMatch>, MatchError>
-    requires own { IsCacheOf dfa.now cache.old }
-    requires is_reverse { is_reverse ≡ dfa.now.nfa.automaton.reverse }
-    ensures made { IsDfa dfa.now }
-    ensures within { IsWithin input.now }
-    ensures own { IsCacheOf dfa.now cache.new }
-    ensures search { MakesSearch dfa.now input.now cache.old cache.new work.old.determinized work.new.determinized work.old.inserted
-        work.new.inserted result }
-{
-    dfa.is_made();
-    see_bytes(input.haystack());
-    if is_between_characters(dfa) {
-        return search_again(dfa, cache, input, work);
-    }
-    if input.is_done() {
-        return Ok(None);
-    }
-    let found = match scan(dfa, cache, input, is_reverse, work) {
-        Ok(found) => found,
-        Err(e) => return Err(e),
-    };
-    let Some(half) = found else {
-        return Ok(None);
-    };
-    Ok(Some(half))
-}
-
 impl DFA {
     /// Returns the end of the match in a span that the match kind prefers, or none, as `DFA::try_search_fwd`. The automaton reads
     /// forward.
@@ -149,6 +115,11 @@ impl DFA {
     /// of some unit of the search. If the cache was cleared, what was searched before the last clear doesn't count. The search in
     /// progress then began at the byte where it was at that clear.
     ///
+    /// If the search returns a match or none, the clause `found` says which, by the ends of the automaton's runs alone. If the
+    /// earliest end is asked for, the search finds the nearest one. Otherwise it finds the end of the most preferred run under
+    /// leftmost-first, and the last end if all matches are asked for. If that end splits a character and so doesn't count, the
+    /// next starting offset decides. A search for a pattern that doesn't exist finds nothing, as does one over a done span.
+    ///
     /// A match, or none, comes with an offset up to which the search read. From the byte before the span up to this offset there
     /// is no quit byte. Under leftmost-first, the result is the first end for each interpretation of looks that agrees with the
     /// one by ASCII bytes up to there. Any haystack with the same bytes there gives the same answer
@@ -169,12 +140,18 @@ impl DFA {
             work.new.inserted }
         ensures progress { ReportsHalf self.now input.now cache.old cache.new result }
     {
-        search(self, cache, input, false, work)
+        self.is_made();
+        see_bytes(input.haystack());
+        if is_between_characters(self) || input.is_done() {
+            return search_again(self, cache, input, work);
+        }
+        scan_forward(self, cache, input, work)
     }
 
     /// Returns the start of the match in a span that the match kind prefers, or none, as `DFA::try_search_rev`. The automaton
-    /// reads in reverse, from the span's end. A match, or none, comes with an offset down to which the search read, from the byte
-    /// after the span on. Everything else is as for [`try_search_fwd`](DFA::try_search_fwd).
+    /// reads in reverse, from the span's end. The nearest end is the greatest one then, and the last end is the least one. A match,
+    /// or none, comes with an offset down to which the search read, from the byte after the span on. Everything else is as for
+    /// [`try_search_fwd`](DFA::try_search_fwd).
     #[inline(always)]
     pub fn try_search_rev<L: Ledger, M: Ledger>(
         &self,
@@ -192,6 +169,11 @@ impl DFA {
             work.new.inserted }
         ensures progress { ReportsHalf self.now input.now cache.old cache.new result }
     {
-        search(self, cache, input, true, work)
+        self.is_made();
+        see_bytes(input.haystack());
+        if is_between_characters(self) || input.is_done() {
+            return search_again(self, cache, input, work);
+        }
+        scan_reverse(self, cache, input, work)
     }
 }

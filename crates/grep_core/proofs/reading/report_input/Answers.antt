@@ -1,4 +1,5 @@
-use Rattle.std.proofs.Common.{◌∙◌}
+use Rattle.std.proofs.Common.{◌∙◌, ◌==◌, ap}
+use Rattle.std.specs.List.{position}
 use Rattle.grep_core.specs.declared.progress.Task.{Task}
 use Rattle.line_search.specs.Searchers.{found_by}
 use Rattle.grep_core.specs.Reporting.{with_needed_spans}
@@ -7,8 +8,14 @@ use Rattle.grep_core.proofs.TextLemmas.{text_part, text_written, rest_part, text
 use Rattle.grep_core.proofs.WriteLemmas.{some_of, at_end}
 use Rattle.grep_core.proofs.reading.report_input.Goals as goal
 
-pub report_blocks-requires : goal.report_blocks-requires
-report_blocks-requires g c = record { waits = c.new-progress.ensures.waits c.args.what.now }
+pub report_blocks-requires-clause-waits : goal.report_blocks-requires-clause-waits
+report_blocks-requires-clause-waits g c = c.new-progress.ensures.waits c.args.what.now
+
+pub report_blocks-requires-clause-open : goal.report_blocks-requires-clause-open
+report_blocks-requires-clause-open g c = ap (position (λ b. b == 10)) c.over-read.ensures
+
+pub finish-requires-clause-open : goal.finish-requires-clause-open
+finish-requires-clause-open g c = ap (position (λ b. b == 10)) c.bytes.ensures ∙ c.in-Ok.ensures.open
 
 pub returns-in-Err-clause-fault : goal.returns-in-Err-clause-fault
 returns-in-Err-clause-fault g c by =

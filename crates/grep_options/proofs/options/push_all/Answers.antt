@@ -1,19 +1,18 @@
 use Rattle.std.proofs.lemmas.Result.{on_ok_weaker}
-use Rattle.grep_options.proofs.Rows.{joined}
+use Rattle.grep_options.proofs.Rows.{adds_as, joined}
 use Rattle.grep_options.proofs.options.push_all.Goals as goal
 
 pub returns : goal.returns
 returns c =
-    let two = joined c.in_ok-push_lists.ensures c.in_ok-push_syntaxes.ensures in
-    let three = joined two c.in_ok-push_case.ensures in
-    let four = joined three c.in_ok-push_selecting.ensures in
-    let five = joined four c.in_ok-push_printing.ensures in
-    let six = joined five c.in_ok-push_folders.ensures in
-    let files = joined six c.in_ok-push_files.ensures in
-    let seven = joined files c.in_ok-push_pairs.ensures in
-    let eight = joined seven c.in_ok-push_numbers.ensures in
-    let nine = joined eight c.in_ok-push_binary.ensures in
-    let ten = joined nine c.in_ok-push_accepted.ensures in
-    let eleven = joined ten c.in_ok-push_format.ensures in
-    let inputs = joined eleven c.in_ok-push_inputs.ensures in
-    on_ok_weaker c.push_others.result (λ p. joined inputs p) c.push_others.ensures
+    let two = joined (adds_as c.in_ok-push_rows.ensures c.given_patterns.ensures) (adds_as c.in_ok-push_rows-2.ensures c.selection.ensures) in
+    let three = joined two (adds_as c.in_ok-push_rows-3.ensures c.printing.ensures) in
+    let four = joined three (adds_as c.in_ok-push_rows-4.ensures c.folders.ensures) in
+    let five = joined four (adds_as c.in_ok-push_rows-5.ensures c.globs.ensures) in
+    let six = joined five (adds_as c.in_ok-push_rows-6.ensures c.found.ensures) in
+    let seven = joined six (adds_as c.in_ok-push_rows-7.ensures c.ignoring.ensures) in
+    let eight = joined seven (adds_as c.in_ok-push_rows-8.ensures c.pairs.ensures) in
+    let nine = joined eight (adds_as c.in_ok-push_rows-9.ensures c.binary.ensures) in
+    let ten = joined nine (adds_as c.in_ok-push_rows-10.ensures c.lines.ensures) in
+    let eleven = joined ten (adds_as c.in_ok-push_rows-11.ensures c.fields.ensures) in
+    let twelve = joined eleven (adds_as c.in_ok-push_rows-12.ensures c.inputs.ensures) in
+    on_ok_weaker c.push_rows-13.result (λ p. joined twelve (adds_as p c.others.ensures)) c.push_rows-13.ensures

@@ -8,7 +8,7 @@ use Rattle.line_search.proofs.regexes.regex_of.Goals as goal
 
 pub returns-in-Ok-shared-clause-built : goal.returns-in-Ok-shared-clause-built
 returns-in-Ok-shared-clause-built c =
-    subst (λ (p : Pair). IsBuilt (c.args.tree.now ∷ []) line_settings p) (sym c.in-Ok-shared.ensures.made)
+    subst (λ (p : Pair). IsBuilt (c.args.tree.now ∷ []) line_settings p) (sym c.in-Ok-shared.ensures)
     (subst (λ (xs : List Tree). IsBuilt xs line_settings c.in-Ok.regex) c.from_ref.ensures.value
     (subst (λ (s : Settings). IsBuilt c.from_ref.result.now s c.in-Ok.regex) c.settings.ensures c.in-Ok.ensures.built))
 

@@ -1,6 +1,6 @@
-use Rattle.std.proofs.Common.{◌≡◌, ◌∙◌, ℕ, List, Option, sym, subst}
+use Rattle.std.proofs.Common.{ℕ, List, Option, sym, subst}
 use Rattle.std.specs.Prelude.{IfSome}
-use Rattle.line_search.specs.Candidates.{IsNextLine}
+use Rattle.line_search.specs.Candidates.{BlockRegex, IsCandidatesOf, IsNextLine}
 use Rattle.line_search.specs.declared.patterns.PatternOptions.{PatternOptions}
 use Rattle.line_search.proofs.CandidateLemmas.{here_is_next}
 use Rattle.line_search.proofs.candidate_finder.CandidateFinder.reach_wordless.Goals as goal
@@ -12,8 +12,14 @@ returns-in_default-clause-next c =
 
 pub returns-clause-next : goal.returns-clause-next
 returns-clause-next c =
-    let is : c.in-Some.wordless ≡ c.self.inside.patterns.now =
-    subst (λ (o : Option (PatternOptions × List (List ℕ))). IfSome o (λ v. v ≡ c.self.inside.patterns.now)) c.in-Some.is
-    c.self.invariant.1 in
-    subst (λ (v : PatternOptions × List (List ℕ)). IsNextLine v.0 v.1 c.args.block.now c.args.at c.in-Ok.reached)
-    (is ∙ c.self.view_is) c.in-Ok.ensures.next
+    let it : IsCandidatesOf c.self.inside.patterns.now.0 c.self.inside.patterns.now.1 c.in-Some.wordless =
+    subst (λ (o : Option BlockRegex). IfSome o (IsCandidatesOf c.self.inside.patterns.now.0 c.self.inside.patterns.now.1))
+    c.in-Some.is c.self.invariant.1 in
+    subst (λ (v : PatternOptions × List (List ℕ)). IsNextLine v.0 v.1 c.args.block.now c.args.at c.in_ok-reached.reached) c.self.view_is
+    (record {
+      from = c.in_ok-reached.ensures.from;
+      within = c.in_ok-reached.ensures.within;
+      starts = c.in_ok-reached.ensures.starts;
+      passed = c.in_ok-reached.ensures.passed c.self.inside.patterns.now.0 c.self.inside.patterns.now.1 it;
+      has = c.in_ok-reached.ensures.has c.self.inside.patterns.now.0 c.self.inside.patterns.now.1 it;
+    })

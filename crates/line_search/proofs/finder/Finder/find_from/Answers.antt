@@ -1,16 +1,67 @@
-use Rattle.std.proofs.Common.{◌≡◌, ◌∙◌, true, option_map, subst}
+use Rattle.std.proofs.Common.{◌≡◌, ℕ, List, Ok, option_map, subst, true, sym, ◌∙◌}
+use Rattle.search_types.specs.Inputs.{Search}
+use Rattle.growing_regex.specs.Growing.{AnswersBy, Growing}
+use Rattle.pattern_search.specs.Searches.{whole_search}
 use Rattle.line_search.specs.FoundSpans.{IsFoundSpan}
 use Rattle.line_search.specs.LineMatchers.{span_pair}
 use Rattle.line_search.specs.Searchers.{Sought}
+use Rattle.line_search.specs.declared.patterns.PatternOptions.{PatternOptions}
+use Rattle.line_search.proofs.FoundSpanLemmas.{found_told}
+use Rattle.line_search.proofs.OwnLemmas.{IsOwn}
 use Rattle.line_search.proofs.finder.Finder.find_from.Goals as goal
 
 pub returns-in-Ok-clause-reported : goal.returns-in-Ok-clause-reported
 returns-in-Ok-clause-reported c =
-    subst (λ (s : Sought). s.spans ≡ true → IsFoundSpan s.how s.texts c.args.line.now c.args.start (option_map span_pair c.in-Ok.found))
-    c.grow_searcher.ensures
-    c.in-Ok.ensures.reported
+    subst (λ (s : Sought). s.spans ≡ true → IsFoundSpan s.how s.texts c.args.line.now c.args.start (option_map span_pair c.span_of.result))
+    c.self.view_is
+    (λ asked. found_told c.self.inside.patterns.now.0 c.self.inside.patterns.now.1 c.self.inside.searcher c.args.line.now c.args.start
+    c.in-Ok.found _ c.regexes_answer_what_patterns_say.ensures c.self.invariant.0.0 (c.self.invariant.0.1 asked).0
+    (c.self.invariant.0.1 asked).1 c.see_bytes.ensures
+    (subst (λ (q : Search). AnswersBy c.self.inside.searcher q (Ok c.in-Ok.found)) c.search_from.ensures c.in-Ok.ensures.answer)
+    c.span_of.ensures)
 
-pub returns-in-Ok-find_slowly-clause-reported : goal.returns-in-Ok-find_slowly-clause-reported
-returns-in-Ok-find_slowly-clause-reported c asked =
-    subst (λ (s : Sought). IsFoundSpan s.how s.texts c.args.line.now c.args.start (option_map span_pair c.in-Ok-find_slowly.found))
-    (c.find_quickly.ensures.same ∙ c.grow_searcher.ensures) c.in-Ok-find_slowly.ensures.reported
+pub returns-clause-reported : goal.returns-clause-reported
+returns-clause-reported c asked =
+    subst (λ (s : Sought). IsFoundSpan s.how s.texts c.args.line.now c.args.start (option_map span_pair c.in_ok-found.found)) c.self.view_is
+    (subst (λ (v : PatternOptions × List (List ℕ)). IsFoundSpan v.0 v.1 c.args.line.now c.args.start (option_map span_pair c.in_ok-found.found))
+    c.self.invariant.1 c.in_ok-found.ensures.reported)
+
+pub invariant_of-self : goal.invariant_of-self
+invariant_of-self c = (
+  subst (λ (x : Growing). IsOwn c.self.inside.patterns.now.0 c.self.inside.patterns.now.1 c.self.inside.with_matches x.pair)
+      (sym c.find.ensures.same) c.self.invariant.0,
+  c.self.invariant.1,
+  c.self.invariant.2,
+  c.self.invariant.3,
+  c.self.invariant.4,
+)
+
+pub invariant_of-self-then-lacks_memory : goal.invariant_of-self-then-lacks_memory
+invariant_of-self-then-lacks_memory c = (
+  subst (λ (x : Growing). IsOwn c.self.inside.patterns.now.0 c.self.inside.patterns.now.1 c.self.inside.with_matches x.pair)
+      (sym c.find.ensures.same) c.self.invariant.0,
+  c.self.invariant.1,
+  c.self.invariant.2,
+  c.self.invariant.3,
+  c.self.invariant.4,
+)
+
+pub invariant_of-self-in_err-found : goal.invariant_of-self-in_err-found
+invariant_of-self-in_err-found c = (
+  subst (λ (x : Growing). IsOwn c.self.inside.patterns.now.0 c.self.inside.patterns.now.1 c.self.inside.with_matches x.pair)
+      (sym c.find.ensures.same) c.self.invariant.0,
+  c.find_from.ensures.same ∙ c.self.invariant.1,
+  c.self.invariant.2,
+  c.self.invariant.3,
+  c.self.invariant.4,
+)
+
+pub invariant_of-self-2 : goal.invariant_of-self-2
+invariant_of-self-2 c = (
+  subst (λ (x : Growing). IsOwn c.self.inside.patterns.now.0 c.self.inside.patterns.now.1 c.self.inside.with_matches x.pair)
+      (sym c.find.ensures.same) c.self.invariant.0,
+  c.find_from.ensures.same ∙ c.self.invariant.1,
+  c.self.invariant.2,
+  c.self.invariant.3,
+  c.self.invariant.4,
+)

@@ -15,19 +15,19 @@ returns-then-end-line-clause-reported c asked res read =
 
 pub returns-then-not-ends_at-clause-reported : goal.returns-then-not-ends_at-clause-reported
 returns-then-not-ends_at-clause-reported c asked res read =
-    next_kept (found_at (line_pattern c.args.self.now.how res) c.args.line.now) c.args.end (option_map span_pair c.in-Ok.next)
-    (c.in-Ok.ensures.reported asked res read) (sym c.ends_at.ensures ∙ c.if-not-ends_at.true)
+    next_kept (found_at (line_pattern c.args.self.now.how res) c.args.line.now) c.args.end (option_map span_pair c.in_ok-next.next)
+    (c.in_ok-next.ensures.reported asked res read) (sym c.ends_at.ensures ∙ c.if-not-ends_at.true)
 
 pub returns-then-end-line-2-clause-reported : goal.returns-then-end-line-2-clause-reported
 returns-then-end-line-2-clause-reported c asked res read =
     next_beyond (found_at (line_pattern c.args.self.now.how res) c.args.line.now) c.args.end
-    (ap (λ (o : Option (ℕ × ℕ)). is_some_and o (λ s. s.1 == c.args.end)) (sym (c.in-Ok.ensures.reported asked res read))
+    (ap (λ (o : Option (ℕ × ℕ)). is_some_and o (λ s. s.1 == c.args.end)) (sym (c.in_ok-next.ensures.reported asked res read))
     ∙ sym c.ends_at.ensures ∙ c.if-not-ends_at.false)
     (found_beyond (line_pattern c.args.self.now.how res) c.args.line.now (c.args.end + 1) (omega (arith, c.if-end-line-2.true)))
 
-pub returns-in-Ok-find_from-clause-reported : goal.returns-in-Ok-find_from-clause-reported
-returns-in-Ok-find_from-clause-reported c asked res read =
-    next_later (found_at (line_pattern c.args.self.now.how res) c.args.line.now) c.args.end (option_map span_pair c.in-Ok.next)
-    (option_map span_pair c.in-Ok-find_from.next) (c.in-Ok.ensures.reported asked res read) (sym c.ends_at.ensures ∙ c.if-not-ends_at.false)
+pub returns-clause-reported : goal.returns-clause-reported
+returns-clause-reported c asked res read =
+    next_later (found_at (line_pattern c.args.self.now.how res) c.args.line.now) c.args.end (option_map span_pair c.in_ok-next.next)
+    (option_map span_pair c.in_ok-later.later) (c.in_ok-next.ensures.reported asked res read) (sym c.ends_at.ensures ∙ c.if-not-ends_at.false)
     (subst (λ (s : Sought). s.spans ≡ true → IsFoundSpan s.how s.texts c.args.line.now (c.args.end + 1)
-    (option_map span_pair c.in-Ok-find_from.next)) c.in-Ok.ensures.same c.in-Ok-find_from.ensures.reported asked res read)
+    (option_map span_pair c.in_ok-later.later)) c.in_ok-next.ensures.same c.in_ok-later.ensures.reported asked res read)

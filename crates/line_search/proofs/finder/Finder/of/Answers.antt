@@ -1,4 +1,4 @@
-use Rattle.std.proofs.Common.{None, ap, inr, refl, sym}
+use Rattle.std.proofs.Common.{ap, inr, refl, sym}
 use Rattle.line_search.specs.BoundedTrees.{IsTreeForLines}
 use Rattle.line_search.specs.Replacing.{all_names}
 use Rattle.line_search.specs.declared.patterns.PatternOptions.{PatternOptions}
@@ -10,13 +10,13 @@ invariant_of-result c =
     let lines : IsTreeForLines c.args.patterns.now.0 c.args.patterns.now.1 c.args.tree.now =
     asked_for_lines c.args.patterns.now.0 c.args.patterns.now.1 c.args.with_matches c.args.tree.now c.requires.tree in (
       (
-        record { tree = c.args.tree.now; mean = lines; capacity = None; built = c.in-Ok.ensures.built },
+        record { tree = c.args.tree.now; mean = lines; built = c.in-Ok.ensures.built },
         λ asked. (
           asked_for_spans c.args.patterns.now.0 c.args.patterns.now.1 c.args.with_matches c.args.tree.now c.requires.tree asked,
           c.requires.loops asked,
         ),
       ),
-      c.new-2.ensures,
+      c.new.ensures,
       c.new-candidates.ensures,
       c.new-literals.ensures c.args.patterns.now.0 c.args.patterns.now.1 (ap (λ (h : PatternOptions). h.crlf) (sym c.how.ensures)) lines,
       c.strings_of.ensures c.args.patterns.now.0 c.args.patterns.now.1 (ap (λ (h : PatternOptions). h.crlf) (sym c.how-2.ensures)) lines,

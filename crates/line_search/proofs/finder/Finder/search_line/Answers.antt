@@ -13,20 +13,20 @@ next_candidate-requires-clause-starts c some =
 
 pub returns-then-reached-end-clause-next : goal.returns-then-reached-end-clause-next
 returns-then-reached-end-clause-next c =
-    subst (λ (s : Sought). IsNextLine s.how s.texts c.args.block.now c.args.at c.in-Ok.reached) c.self.view_is
+    subst (λ (s : Sought). IsNextLine s.how s.texts c.args.block.now c.args.at c.in_ok-reached.reached) c.self.view_is
     (next_in_part c.self.inside.patterns.now.0 c.self.inside.patterns.now.1 c.args.block.now c.args.at c.line_end-end.result
-    c.line_end-end.ensures.within c.line_end-end.ensures.starts c.in-Ok.reached c.line_end-end.ensures.from
-    (subst (λ (v : PatternOptions × List (List ℕ)). IsNextLine v.0 v.1 (take c.line_end-end.result c.args.block.now) c.args.at c.in-Ok.reached)
-    c.self.invariant.2 c.in-Ok.ensures.next)
+    c.line_end-end.ensures.within c.line_end-end.ensures.starts c.in_ok-reached.reached c.line_end-end.ensures.from
+    (subst (λ (v : PatternOptions × List (List ℕ)). IsNextLine v.0 v.1 (take c.line_end-end.result c.args.block.now) c.args.at c.in_ok-reached.reached)
+    c.self.invariant.2 c.in_ok-reached.ensures.next)
     (omega (arith, c.if-reached-end.true)))
 
 pub returns-clause-next : goal.returns-clause-next
 returns-clause-next c =
     subst (IsNextLine c.args.self.now.how c.args.self.now.texts c.args.block.now c.args.at) (sym c.here.ensures)
     (subst (λ (s : Sought). IsNextLine s.how s.texts c.args.block.now c.args.at
-    (record { start = c.in-Ok.reached.start; has = false; passed = 0; gave_up = false })) c.self.view_is
+    (record { start = c.in_ok-reached.reached.start; has = false; passed = 0; gave_up = false })) c.self.view_is
     (next_after_part c.self.inside.patterns.now.0 c.self.inside.patterns.now.1 c.args.block.now c.args.at c.line_end-end.result
-    c.line_end-end.ensures.within c.line_end-end.ensures.starts c.in-Ok.reached c.line_end-end.ensures.from
-    (subst (λ (v : PatternOptions × List (List ℕ)). IsNextLine v.0 v.1 (take c.line_end-end.result c.args.block.now) c.args.at c.in-Ok.reached)
-    c.self.invariant.2 c.in-Ok.ensures.next)
+    c.line_end-end.ensures.within c.line_end-end.ensures.starts c.in_ok-reached.reached c.line_end-end.ensures.from
+    (subst (λ (v : PatternOptions × List (List ℕ)). IsNextLine v.0 v.1 (take c.line_end-end.result c.args.block.now) c.args.at c.in_ok-reached.reached)
+    c.self.invariant.2 c.in_ok-reached.ensures.next)
     (omega (arith, c.if-reached-end.false))))

@@ -13,8 +13,8 @@ returns-in_default-clause-next c =
 
 pub returns-clause-next : goal.returns-clause-next
 returns-clause-next c =
-    subst (λ (s : Sought). IsNextLine s.how s.texts c.args.block.now c.args.at c.next_candidate.result) c.self.view_is
-    (c.next_candidate.ensures.next c.self.inside.patterns.now.0 c.self.inside.patterns.now.1
+    subst (λ (s : Sought). IsNextLine s.how s.texts c.args.block.now c.args.at c.next_with_literal.result) c.self.view_is
+    (c.next_with_literal.ensures.next c.self.inside.patterns.now.0 c.self.inside.patterns.now.1
     (subst (λ (o : Option (List (List ℕ))). IfSome o (AreLiteralsOf c.self.inside.patterns.now.0 c.self.inside.patterns.now.1)) c.in-Some.is
     c.self.invariant.3)
     (c.borrowed-strings.ensures c.self.inside.patterns.now.0 c.self.inside.patterns.now.1 c.self.invariant.4))

@@ -1,25 +1,21 @@
-use Rattle.std.proofs.Common.{length, ◌+◌, subst}
+use Rattle.std.proofs.Common.{◌≡◌, ◌∷◌, [], length, sym, subst, ◌∙◌, IfSome}
 use Rattle.literal_search.specs.Literals.{BeginsBy}
-use Rattle.literal_search.specs.Searches.{NoneBegins, AdvancesTo}
-use Rattle.literal_search.proofs.SearchLemmas.{stop_of_first, none_of_nowhere, stop_of_before}
+use Rattle.literal_search.specs.Searches.{AdvancesTo, IsLiteralStop}
+use Rattle.literal_search.proofs.SearchLemmas.{stop_of_near, stop_after}
 use Rattle.literal_search.proofs.searching.LiteralSearch.find_at.Goals as goal
 
-pub returns-in-Found : goal.returns-in-Found
-returns-in-Found c =
+pub returns-in-At : goal.returns-in-At
+returns-in-At c =
     let h = c.args.haystack.now in
-    subst (λ ls. AdvancesTo ls h c.args.from c.in-Found.at × BeginsBy ls h c.in-Found.at (length h)) c.self.view_is
-    (stop_of_first c.self.inside.filter h c.args.from c.in-Found.at c.in-Found.field-1 c.in-Found.ensures.bounded)
+    let only = sym c.self.view_is ∙ subst (λ o. IfSome o (λ p. c.self.inside.filter ≡ p.literal.items ∷ [])) c.in-Some.is c.self.invariant in
+    subst (λ ls. AdvancesTo ls h c.args.from c.in-At.at × BeginsBy ls h c.in-At.at (length h)) (sym only)
+    (stop_of_near h c.in-Some.pair.literal.items c.args.from c.in-At.at c.in-At.ensures)
 
-pub returns-in-Missing : goal.returns-in-Missing
-returns-in-Missing c =
+pub returns-in-Passed : goal.returns-in-Passed
+returns-in-Passed c =
     let h = c.args.haystack.now in
-    subst (λ ls. NoneBegins ls h c.args.from (length h + 1)) c.self.view_is
-    (none_of_nowhere c.self.inside.filter h c.args.from (length h + 1) c.in-Missing.ensures.bounded)
-
-pub returns-in-Tired : goal.returns-in-Tired
-returns-in-Tired c =
-    let h = c.args.haystack.now in (
-      (c.find_bounded.ensures.tires c.in-Tired.at c.in-Tired.is).0,
-      subst (λ ls. AdvancesTo ls h c.args.from c.in-Tired.at) c.self.view_is
-          (stop_of_before c.self.inside.filter h c.args.from c.in-Tired.at c.in-Tired.ensures.bounded),
-    )
+    let only = sym c.self.view_is ∙ subst (λ o. IfSome o (λ p. c.self.inside.filter ≡ p.literal.items ∷ [])) c.in-Some.is c.self.invariant in
+    let stop = c.filter_at-in-Passed.result in
+    subst (λ ls. IsLiteralStop ls h c.args.from stop) (sym only)
+    (stop_after h c.in-Some.pair.literal.items c.args.from c.in-Passed.at c.in-Passed.ensures stop
+    (subst (λ ls. IsLiteralStop ls h c.in-Passed.at stop) only c.filter_at-in-Passed.ensures))

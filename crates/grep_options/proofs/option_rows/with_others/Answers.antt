@@ -1,0 +1,10 @@
+use Rattle.std.proofs.lemmas.Result.{IfOk-weaker}
+use Rattle.grep_options.proofs.Rows.{row_related}
+use Rattle.grep_options.proofs.option_rows.with_others.Goals as goal
+
+pub returns : goal.returns
+returns c =
+    IfOk-weaker c.conflicts_with_all.result _ _
+    (λ a h. row_related c.args.arg c.in_ok-arg.arg c.in_ok-arg-2.arg a c.args.row.now.aliases.now c.args.row.now.over.now c.args.row.now.without.now
+    c.in_ok-arg.ensures c.in_ok-arg-2.ensures h)
+    c.conflicts_with_all.ensures

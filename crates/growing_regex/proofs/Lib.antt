@@ -1,0 +1,2 @@
+mod GrownLemmas
+pub mod ResizeLemmas

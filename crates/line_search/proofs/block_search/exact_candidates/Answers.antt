@@ -1,8 +1,0 @@
-use Rattle.std.proofs.Common.{ap, sym}
-use Rattle.line_search.specs.declared.patterns.PatternOptions.{PatternOptions}
-use Rattle.line_search.proofs.block_search.exact_candidates.Goals as goal
-
-pub returns : goal.returns
-returns c =
-    c.in-Ok-new.ensures.candidates c.args.patterns.now.0 c.args.patterns.now.1
-    (ap (λ (h : PatternOptions). h.crlf) (sym c.how-crlf.ensures)) c.requires.tree c.in-Ok.ensures.built

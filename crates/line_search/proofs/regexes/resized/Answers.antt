@@ -1,8 +1,0 @@
-use Rattle.std.proofs.Common.{sym, subst}
-use Rattle.regex_pair.specs.Pairs.{Pair}
-use Rattle.line_search.specs.Searchers.{IsResized}
-use Rattle.line_search.proofs.regexes.resized.Goals as goal
-
-pub returns-in-Ok : goal.returns-in-Ok
-returns-in-Ok c =
-    subst (λ (p : Pair). IsResized c.args.capacity c.args.re.now p) (sym c.in-Ok.ensures.made) c.in-Some.ensures

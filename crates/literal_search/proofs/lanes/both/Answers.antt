@@ -1,0 +1,6 @@
+use Rattle.std.proofs.Common.{bit_and}
+use Rattle.regex_literal.proofs.lemmas.LaneLemmas.{HasLanes-zip2}
+use Rattle.literal_search.proofs.lanes.both.Goals as goal
+
+pub returns : goal.returns
+returns c = HasLanes-zip2 bit_and c.args.first c.args.second c.fits-first.0 c.fits-second.0
