@@ -49,5 +49,5 @@ returns-clause-reported g c =
     (λ r h m text. report_by r h c.args.task c.options_for-what.result c.args.outcome m c.as_bytes-bytes.result.now text)
     (λ r h m text. whole_report_by r h c.args.task c.options_for-what.result c.args.outcome m c.as_bytes-bytes.result.now text)
     (λ r m text. body_count r c.options_for-what.result m c.as_bytes-bytes.result.now text) plain.0 plain.1
-    (rw (sym c.known.ensures) c.report_input-reported.ensures.reported) c.report_input-reported.ensures.selected
-    (rw (sym c.known.ensures) c.report_input-reported.ensures.fault))
+    (rw (sym c.known-known.ensures) c.report_input-reported.ensures.reported) c.report_input-reported.ensures.selected
+    (rw (sym c.known-known.ensures) c.report_input-reported.ensures.fault))
