@@ -183,24 +183,28 @@ if_first P NoMatch w old mid first shown same read is h =
 
 -- The report of an input is that of what is searched by its first bytes and the others.
 pub input_reported : (s : Sought) (reading : Reading) (b : Binary) (w v : OutputOptions) (old mid inner before after : Option (List ℕ))
-    (r : Result ℕ Fault) (first shown : List ℕ) (given : Binary) (zero made : Bool) (name printed : List ℕ)
+    (said r : Result ℕ Fault) (first shown : List ℕ) (given : Binary) (zero made : Bool) (name printed : List ℕ)
     (all whole : List ℕ → OutputOptions → ReadPatterns → List ℕ → List ℕ) (count : List ℕ → OutputOptions → ReadPatterns → List ℕ → ℕ)
-    → v ≡ options_by b zero w → printed ≡ name → given ≡ b → made ≡ zero → zero ≡ has_zero shown → shown ≡ first
+    → said ≡ r → v ≡ options_by b zero w → printed ≡ name → given ≡ b → made ≡ zero → zero ≡ has_zero shown → shown ≡ first
     → Consumes old mid first → IfSome old (λ text. first ≡ read_ahead b text) → inner ≡ option_append (Some shown) mid
     → ((by : SearchesFor s (lists_in reading v)) → IfSome (remaining_of given made inner) (λ text. IsInputReported before after r
     (all printed v (patterns_by by) text) (whole printed v (patterns_by by) text) (count printed v (patterns_by by) text)))
-    → (by : SearchesFor s (lists_in reading w)) → IfSome old (λ text. IsInputReported before after r
+    → (by : SearchesFor s (lists_in reading w)) → IfSome old (λ text. IsInputReported before after said
     (all name (options_by b (is_binary text) w) (patterns_by by) (searched_bytes b (is_binary text) text))
     (whole name (options_by b (is_binary text) w) (patterns_by by) (searched_bytes b (is_binary text) text))
     (count name (options_by b (is_binary text) w) (patterns_by by) (searched_bytes b (is_binary text) text)))
-input_reported s reading b w v old mid inner before after r first shown given zero made name printed all whole count options names kept put is same read of
-    joined h by =
-    if_first (λ u text. IsInputReported before after r (all name u (patterns_by by) text) (whole name u (patterns_by by) text)
+input_reported s reading b w v old mid inner before after said r first shown given zero made name printed all whole count result options names kept put is
+    same read of joined h by =
+    subst (λ (it : Result ℕ Fault). IfSome old (λ text. IsInputReported before after it
+    (all name (options_by b (is_binary text) w) (patterns_by by) (searched_bytes b (is_binary text) text))
+    (whole name (options_by b (is_binary text) w) (patterns_by by) (searched_bytes b (is_binary text) text))
+    (count name (options_by b (is_binary text) w) (patterns_by by) (searched_bytes b (is_binary text) text)))) (sym result)
+    (if_first (λ u text. IsInputReported before after r (all name u (patterns_by by) text) (whole name u (patterns_by by) text)
     (count name u (patterns_by by) text)) b w old mid first shown same read of
     (if_searched (λ z text. IsInputReported before after r (all name (options_by b z w) (patterns_by by) text)
     (whole name (options_by b z w) (patterns_by by) text) (count name (options_by b z w) (patterns_by by) text))
     b given zero made shown mid inner kept put is
-    (reported_for s reading b zero w v (remaining_of given made inner) before after r printed name all whole count options names h by) joined)
+    (reported_for s reading b zero w v (remaining_of given made inner) before after r printed name all whole count options names h by) joined))
 
 pub if_any : (P : List ℕ → Type 0) → ((text : List ℕ) → P text) → (o : Option (List ℕ)) → IfSome o P
 if_any P h None = _
