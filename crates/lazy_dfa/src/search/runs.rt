@@ -187,34 +187,9 @@ fn read_forward(
     read_alone(dfa, cache, haystack, moved, end).moved
 }
 
-/// Follows known steps forward while no state has a tag, and skips no bytes. It stops after `REST` bytes, so that a search of a long
-/// span may try skips again.
-#[inline(always)]
-fn read_resting(
-    dfa: &DFA,
-    cache: &mut Cache,
-    haystack: &[u8],
-    id: LazyStateID,
-    from: usize,
-    end: usize,
-) -> Moved
-    requires own { IsCacheOf dfa.now cache.old }
-    requires is_forward { dfa.now.nfa.automaton.reverse ≡ false }
-    requires row { IsRow cache.old id }
-    requires untagged { id < tag }
-    requires fits { from ≤ end }
-    requires within { end ≤ length haystack.now }
-    ensures same { cache.new ≡ cache.old }
-    ensures moves { MovesTo dfa.now cache.old haystack.now (record { at = from; id = id }) end result }
-{
-    let limit = from + (end - from).min(REST);
-    let moved = read_forward(dfa, cache, haystack, id, from, limit);
-    cache.rest(moved.at - from);
-    moved
-}
-
 /// Follows known steps while no state has a tag, up to the last position of the span. A search forward first reads a few bytes. Then,
-/// unless it is anchored, it skips bytes if that paid off.
+/// unless it is anchored, it skips bytes if that paid off. If it doesn't skip, it stops after `REST` bytes, so that a search of a long span
+/// may try skips again.
 #[inline(always)]
 pub(crate) fn run(
     dfa: &DFA,
@@ -263,7 +238,9 @@ pub(crate) fn run(
         };
     }
     if input.get_anchored().is_anchored() || cache.reads_all() {
-        let moved = read_resting(dfa, cache, haystack, first.id, first.at, end);
+        let limit = first.at + (end - first.at).min(REST);
+        let moved = read_forward(dfa, cache, haystack, first.id, first.at, limit);
+        cache.rest(moved.at - first.at);
         return Position {
             at: moved.at,
             id: moved.id,

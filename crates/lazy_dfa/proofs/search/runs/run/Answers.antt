@@ -39,12 +39,15 @@ returns-then-is_anchored-clause-goes c =
     (record { at = c.args.position.at; id = c.args.position.id })
     (record { at = c.walk_forward-first.result.at; id = c.walk_forward-first.result.id }) _ c.end-end.result c.walk_forward-first.ensures.moves
     (search rules) in
+    let on = reads_within d v h c.is_made.ensures c.requires.own c.see_bytes.ensures up
+    (record { at = c.walk_forward-first.result.at; id = c.walk_forward-first.result.id }) c.read_forward-moved.result _ c.end-end.result
+    c.read_forward-moved.ensures (search rules) in
     let moves = reads_on d v h c.is_made.ensures c.requires.own c.see_bytes.ensures up
     (record { at = c.args.position.at; id = c.args.position.id })
-    (record { at = c.walk_forward-first.result.at; id = c.walk_forward-first.result.id }) c.read_resting-moved.result c.end-end.result c.end-end.result
-    c.requires.row begun c.read_resting-moved.ensures.moves in
-    forward_between d v c.args.input.now h c.args.is_reverse c.args.position.at c.read_resting-moved.result.at c.args.position.id
-    c.read_resting-moved.result.id c.end-end.result (pair_of c.args.position.best) c.haystack-haystack.ensures.value c.end-end.ensures.value
+    (record { at = c.walk_forward-first.result.at; id = c.walk_forward-first.result.id }) c.read_forward-moved.result c.end-end.result c.end-end.result
+    c.requires.row begun on in
+    forward_between d v c.args.input.now h c.args.is_reverse c.args.position.at c.read_forward-moved.result.at c.args.position.id
+    c.read_forward-moved.result.id c.end-end.result (pair_of c.args.position.best) c.haystack-haystack.ensures.value c.end-end.ensures.value
     c.if-is_reverse.false moves.past moves.within moves.goes
 
 pub returns-clause-goes : goal.returns-clause-goes
