@@ -118,7 +118,7 @@ macro_rules! options {
             self
         }
 
-        /// How many bytes each of both caches may take. The default is 2 MiB, for which 0 stands.
+        /// How many bytes each of both caches may take. The default, for which 0 stands, is 2 MiB, and up to 256 MiB where that is too little.
         pub fn dfa_size_limit(&mut self, bytes: usize) -> &mut Self {
             self.0.options.capacity = bytes;
             self

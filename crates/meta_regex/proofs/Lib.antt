@@ -9,6 +9,7 @@ pub mod NextLemmas
 mod OrderLemmas
 mod RoundLemmas
 mod RunLemmas
+mod CacheLemmas
 mod CharLemmas
 mod PartLemmas
 mod SplittingLemmas

@@ -1,17 +1,30 @@
 -- What the cache of a regex holds.
-use Rattle.std.specs.Prelude.{IfSome}
+use Rattle.std.specs.Prelude.{◌≡◌, IfSome}
 use Rattle.search_types.specs.declared.match_kind.MatchKind.TheVariants.{All as AllMatches, LeftmostFirst}
-use Rattle.regex_pair.specs.Pairs.{AreCachesOf}
+use Rattle.growing_regex.specs.Growing.{Growing}
 use Rattle.meta_regex.specs.declared.cache.Cache.{Cache}
-use Rattle.meta_regex.specs.Regexes.{AreBuiltOf, RegexValue, config_by}
+use Rattle.meta_regex.specs.Regexes.{AreBuiltOf, AreReportedOf, RegexValue, config_by}
 use Rattle.meta_regex.specs.Fallbacks.{AreFallbacksOf}
 use Rattle.meta_regex.specs.Wordless.{AreWordlessOf}
 
--- This cache was made for a regex with these patterns, options and automata. Searches with it keep that so. What is made later is of the
--- patterns too: the automaton that reports which patterns match, and the toolchain's programs.
+-- If the options set a capacity of caches, these are never enlarged.
+abbrev pub KeepsCapacity : RegexValue → Growing → Type 0
+KeepsCapacity v g = IfSome v.options.cache_capacity (λ _. g.largest ≡ 0)
+
+-- Automata that are built from trees of the patterns of the regex.
+unfoldable pub AreAutomataOf : RegexValue → Growing → Type 0
+AreAutomataOf v g = AreReportedOf (config_by v) v.texts LeftmostFirst v.loops g.pair × KeepsCapacity v g
+
+-- Automata that are built from these trees without their looks at words.
+unfoldable pub AreWordlessAutomataOf : RegexValue → Growing → Type 0
+AreWordlessAutomataOf v g = AreWordlessOf (config_by v) v.texts LeftmostFirst g.pair × KeepsCapacity v g
+
+-- This cache was made for a regex with these patterns and options: its automata are of the patterns. Searches with it keep that so. What is
+-- made later is of the patterns too: the automata without looks at words, the automata that report which patterns match, and the toolchain's
+-- programs.
 pub record IsCacheOf (v : RegexValue) (c : Cache) : Type 0 where
-  pub pair : AreCachesOf v.pair c.pair
+  pub automata : AreAutomataOf v c.automata
   pub overlapping : IfSome c.overlapping (AreBuiltOf (config_by v) v.texts AllMatches)
   pub fallbacks : IfSome c.fallbacks (AreFallbacksOf (config_by v) v.texts)
-  pub wordless : IfSome c.wordless (AreWordlessOf (config_by v) v.texts LeftmostFirst)
+  pub wordless : IfSome c.wordless (AreWordlessAutomataOf v)
   pub wordless_overlapping : IfSome c.wordless_overlapping (AreWordlessOf (config_by v) v.texts AllMatches)

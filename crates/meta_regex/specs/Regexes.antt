@@ -30,13 +30,12 @@ use Rattle.meta_regex.specs.declared.found_match.FoundMatch.{FoundMatch}
 use Rattle.meta_regex.specs.declared.options.Options.{Options}
 use Rattle.meta_regex.specs.Options.{config_of, settings_of}
 
--- What a contract sees of a regex: its options and patterns, whether the body of every unbounded repetition in these consumes at least one
--- byte, and the two automata that search together. Callers need to know nothing of the automata, except that a cache is made for them.
+-- What a contract sees of a regex: its options and patterns, and whether the body of every unbounded repetition in these consumes at least
+-- one byte.
 pub record RegexValue : Type 0 where
   pub options : Options
   pub texts : List (List ℕ)
   pub loops : Bool
-  pub pair : Pair
 
 -- How its patterns are parsed.
 abbrev pub config_by : RegexValue → Config

@@ -2,7 +2,6 @@
 ghost use Rattle.std.specs.Prelude.{◌≡◌, ◌≤◌, ℕ, List, length, true};
 ghost use Rattle.regex_syntax.specs.declared.Config.{Config as TextConfig};
 ghost use Rattle.search_core.specs.Utf8.{IsValidText};
-ghost use Rattle.regex_pair.specs.Pairs.{AreCachesOf};
 ghost use Rattle.meta_regex.specs.Caches.{IsCacheOf};
 ghost use Rattle.meta_regex.specs.Regexes.{config_by};
 ghost use Rattle.meta_regex.specs.Starts.{HasSoughtSpan, HasStepSpan, HasTriedSpan, IsSought, IsStep, IsTried, NoneStartsAt};
@@ -12,7 +11,6 @@ use crate::cache::Cache;
 use crate::compiled::Regex;
 use crate::found_match::FoundMatch;
 use crate::searching::see_bytes;
-use hir_regex::find;
 use hir_regex::headline::{
     searches_answer_leftmost_whatever_the_loops, searches_answer_what_trees_define,
 };
@@ -128,18 +126,18 @@ pub(crate) fn step_of(tried: Tried, haystack: &[u8], start: usize) -> Step
 
 impl Regex {
     /// A search by the automata for a match that starts at this offset.
-    fn find_there(&self, cache: &mut regex_pair::regex::Cache, haystack: &[u8], at: usize) -> Tried
-        requires own { AreCachesOf self.now.pair cache.old }
+    fn find_there(&self, cache: &mut Cache, haystack: &[u8], at: usize) -> Tried
+        requires own { IsCacheOf self.now cache.old }
         requires within { at ≤ length haystack.now }
         requires valid { (config_by self.now).utf8 ≡ true → IsValidText haystack.now }
-        ensures own { AreCachesOf self.now.pair cache.new }
+        ensures own { IsCacheOf self.now cache.new }
         ensures tried { IsTried (config_by self.now) self.now.texts haystack.now at result }
         ensures preferred { self.now.loops ≡ true → HasTriedSpan (config_by self.now) self.now.texts haystack.now at result }
     {
         see_bytes(haystack);
         searches_answer_leftmost_whatever_the_loops();
         searches_answer_what_trees_define();
-        let found = match find(self.pair(), cache, &search_there(haystack, at)) {
+        let found = match cache.automata.find(&search_there(haystack, at)) {
             Ok(found) => found,
             Err(_) => return Tried::GaveUp,
         };
@@ -155,9 +153,9 @@ impl Regex {
         ensures tried { IsTried (config_by self.now) self.now.texts haystack.now at result }
         ensures preferred { self.now.loops ≡ true → HasTriedSpan (config_by self.now) self.now.texts haystack.now at result }
     {
-        let before = cache.pair.forward().search_total_len();
-        let tried = self.find_there(&mut cache.pair, haystack, at);
-        let after = cache.pair.forward().search_total_len();
+        let before = cache.automata.search_total_len();
+        let tried = self.find_there(cache, haystack, at);
+        let after = cache.automata.search_total_len();
         cache
             .effort
             .gain(saved_by(&tried, self.begins_with_literal()));

@@ -2,7 +2,7 @@
 ghost use Rattle.std.specs.Prelude.{IfErr, IfOk, IfSome, ℕ, List};
 ghost use Rattle.regex_syntax.specs.declared.Config.{Config as TextConfig};
 ghost use Rattle.search_types.specs.declared.match_kind.MatchKind.TheVariants.{All as AllMatches, LeftmostFirst};
-ghost use Rattle.meta_regex.specs.Caches.{IsCacheOf};
+ghost use Rattle.meta_regex.specs.Caches.{AreWordlessAutomataOf, IsCacheOf};
 ghost use Rattle.meta_regex.specs.Fallbacks.{AreFallbacksOf};
 ghost use Rattle.meta_regex.specs.Regexes.{AreBuiltOf, IsSearchError, config_by};
 ghost use Rattle.meta_regex.specs.Wordless.{AreWordlessOf};
@@ -13,7 +13,8 @@ use crate::errors::SearchError;
 use crate::fallback::{Fallbacks, fallbacks_of};
 use crate::overlapping::OverlappingSearcher;
 use crate::texts::borrowed;
-use crate::wordless::{WordlessSearcher, wordless_pair};
+use crate::wordless::wordless_pair;
+use growing_regex::{GrowingRegex, shared};
 use literal_search::Effort;
 use search_types::MatchKind;
 use std::alloc::{AllocError, Global};
@@ -24,20 +25,19 @@ use std::alloc::{AllocError, Global};
 /// and the toolchain's programs.
 #[derive(Drop)]
 pub struct Cache {
-    pub(crate) pair: regex_pair::regex::Cache,
+    pub(crate) automata: GrowingRegex,
     pub(crate) overlapping: Option<OverlappingSearcher>,
     pub(crate) fallbacks: Option<Fallbacks>,
-    pub(crate) wordless: Option<WordlessSearcher>,
+    pub(crate) wordless: Option<GrowingRegex>,
     pub(crate) wordless_overlapping: Option<OverlappingSearcher>,
     /// Whether searches for literals pay.
     pub(crate) effort: Effort,
 }
 
 impl Cache {
-    /// How often the caches of the automata were cleared. The greatest number stands for any number above it.
+    /// How often the caches of the automata were cleared, those included that have been replaced by larger ones. The greatest number stands for any number above it.
     pub fn clear_count(&self) -> usize {
-        let forward = self.pair.forward().clear_count();
-        let clears = forward.saturating_add(self.pair.reverse().clear_count());
+        let clears = self.automata.clear_count();
         let clears = match &self.overlapping {
             Some(searcher) => clears.saturating_add(searcher.clear_count()),
             None => clears,
@@ -54,7 +54,7 @@ impl Cache {
 
     /// The bytes that the caches of the automata are estimated to need.
     pub fn memory_usage(&self) -> usize {
-        let usage = self.pair.memory_usage();
+        let usage = self.automata.memory_usage();
         let usage = match &self.overlapping {
             Some(searcher) => usage.saturating_add(searcher.memory_usage()),
             None => usage,
@@ -75,9 +75,10 @@ impl Regex {
     pub fn create_cache(&self, alloc: Global) -> Result<Cache, AllocError>
         ensures { IfOk result (IsCacheOf self.now) }
     {
-        let pair = self.pair().create_cache(alloc)?;
+        let pair = self.pair()?;
+        let automata = GrowingRegex::new(alloc, pair, self.options().largest_capacity())?;
         Ok(Cache {
-            pair,
+            automata,
             overlapping: None,
             fallbacks: None,
             wordless: None,
@@ -119,13 +120,16 @@ impl Regex {
     }
 
     /// What finds the least start of a match without looks at words, if it can be made.
-    fn wordless_searcher(&self, alloc: Global) -> Option<WordlessSearcher>
-        ensures { IfSome result (AreWordlessOf (config_by self.now) self.now.texts LeftmostFirst) }
+    fn wordless_searcher(&self, alloc: Global) -> Option<GrowingRegex>
+        ensures { IfSome result (AreWordlessAutomataOf self.now) }
     {
         let Some(pair) = self.wordless_pair(alloc, MatchKind::LeftmostFirst) else {
             return None;
         };
-        match WordlessSearcher::of(alloc, pair) {
+        let Ok(regex) = shared(alloc, pair) else {
+            return None;
+        };
+        match GrowingRegex::new(alloc, regex, self.options().largest_capacity()) {
             Ok(searcher) => Some(searcher),
             Err(_) => None,
         }

@@ -12,9 +12,11 @@ use crate::options::Options;
 use crate::short_loops::all_have_short_loops;
 use crate::texts::owned;
 use crate::ways::Way;
+use growing_regex::shared;
 use search_types::MatchKind;
-use std::alloc::Global;
+use std::alloc::{AllocError, Global};
 use std::marker::Model;
+use std::sync::Arc;
 
 /// How many skipped bytes make up for a search that begins at a literal.
 const CANDIDATE: usize = 128;
@@ -31,7 +33,7 @@ const CANDIDATE_PARTS: usize = 24;
 /// Such haystacks are searched by programs of the toolchain for the same patterns, which a cache makes when the first one comes.
 #[derive(Drop)]
 pub struct Regex {
-    pair: regex_pair::regex::Regex,
+    pair: Arc<regex_pair::regex::Regex>,
     texts: Vec<String>,
     options: Options,
     loops: bool,
@@ -53,9 +55,9 @@ impl Model for Regex {
 
     ghost Value = { RegexValue };
 
-    ghost view = { λ r. record { options = r.options; texts = map string_bytes r.texts.items; loops = r.loops; pair = r.pair } };
+    ghost view = { λ r. record { options = r.options; texts = map string_bytes r.texts.items; loops = r.loops } };
 
-    ghost invariant = { λ r. AreReportedOf (config_of r.options) (map string_bytes r.texts.items) LeftmostFirst r.loops r.pair
+    ghost invariant = { λ r. AreReportedOf (config_of r.options) (map string_bytes r.texts.items) LeftmostFirst r.loops r.pair.value
         × AreStartsOf (config_of r.options) (map string_bytes r.texts.items) r.starts
         × HasWay (config_of r.options) (map string_bytes r.texts.items) r.loops r.starts r.way };
 }
@@ -74,11 +76,15 @@ impl Regex {
             Ok(copies) => copies,
             Err(_) => return Err(NewError::NoMemory),
         };
+        let pair = match shared(alloc, built.pair) {
+            Ok(pair) => pair,
+            Err(_) => return Err(NewError::NoMemory),
+        };
         let short = all_have_short_loops(&built.trees);
         let starts = LiteralStarts::of(alloc, &built.trees, short);
         let way = Way::of(alloc, &built.trees, &starts, short);
         Ok(Regex {
-            pair: built.pair,
+            pair,
             texts: copies,
             options: *options,
             loops: built.loops,
@@ -116,12 +122,12 @@ impl Regex {
         self.loops
     }
 
-    /// The automata that search together.
-    pub(crate) fn pair(&self) -> &regex_pair::regex::Regex
-        ensures value { result.now ≡ self.now.pair }
-        ensures of { AreReportedOf (config_by self.now) self.now.texts LeftmostFirst self.now.loops self.now.pair }
+    /// The automata that search together, to be shared.
+    pub(crate) fn pair(&self) -> Result<Arc<regex_pair::regex::Regex>, AllocError>
+        ensures { IfOk result (λ pair. AreReportedOf (config_by self.now) self.now.texts LeftmostFirst self.now.loops pair.value) }
     {
-        &self.pair
+        let pair = Arc::try_clone(&self.pair)?;
+        Ok(pair)
     }
 
     /// What literals say of where matches start.

@@ -1,7 +1,8 @@
 //! How a regex is made, and how its caches behave.
-ghost use Rattle.std.specs.Prelude.{◌≡◌};
+ghost use Rattle.std.specs.Prelude.{◌≡◌, IfSome};
 ghost use Rattle.meta_regex.specs.Options.{dfa_options_of, settings_of};
 
+use growing_regex::LARGEST;
 use hir_regex::Settings;
 use lazy_dfa::dfa;
 use pattern_text::Config;
@@ -22,7 +23,8 @@ pub struct Options {
     pub shrink: bool,
     /// How many bytes each of both NFAs may take; `None` means any number.
     pub size_limit: Option<usize>,
-    /// How many bytes each of both caches may take; `None` means the default of [`lazy_dfa`].
+    /// How many bytes each of both caches may take. `None` means the default of [`lazy_dfa`]; then caches are enlarged, up to 256 MiB, if they
+    /// are cleared too soon.
     pub cache_capacity: Option<usize>,
 }
 
@@ -39,6 +41,16 @@ impl Options {
         match self.cache_capacity {
             Some(capacity) => config.cache_capacity(capacity),
             None => config,
+        }
+    }
+
+    /// The largest capacity in bytes to which caches are enlarged. It is 0 if a capacity is set: then they are never enlarged.
+    pub(crate) fn largest_capacity(&self) -> usize
+        ensures { IfSome self.now.cache_capacity (λ _. result ≡ 0) }
+    {
+        match self.cache_capacity {
+            Some(_) => 0,
+            None => LARGEST,
         }
     }
 

@@ -1,9 +1,8 @@
 //! Searches for one match.
-ghost use Rattle.std.specs.Prelude.{◌≡◌, ◌≤◌, ◌<◌, All, IfErr, IfOk, IfSome, length, option_map, true};
+ghost use Rattle.std.specs.Prelude.{◌≡◌, ◌≤◌, IfErr, IfOk, IfSome, length, option_map, true};
 ghost use Rattle.regex_syntax.specs.declared.Config.{Config as TextConfig};
 ghost use Rattle.search_core.specs.Utf8.{IsValidText};
 ghost use Rattle.pattern_search.specs.Searches.{whole_search};
-ghost use Rattle.regex_pair.specs.Pairs.{AreCachesOf};
 ghost use Rattle.meta_regex.specs.Caches.{IsCacheOf};
 ghost use Rattle.meta_regex.specs.Starts.{HasSoughtSpan, HasStepSpan, IsSought, IsStep, sought_of};
 ghost use Rattle.meta_regex.specs.Wordless.{MayBeginAt};
@@ -16,15 +15,11 @@ use crate::errors::SearchError;
 use crate::fallback::find_match;
 use crate::found_match::FoundMatch;
 use crate::runs::NextRun;
-use hir_regex::find;
+use crate::wordless::least_start;
+pub(crate) use hir_regex::see_bytes;
 use pattern_search::regex_laws::regexes_answer_what_is_written;
 use search_types::{Input, Match, MatchError, MatchErrorKind};
 use std::alloc::Global;
-
-/// The elements of a haystack are bytes, below 256.
-pub(crate) fn see_bytes(bytes: &[u8])
-    ensures { All (λ byte. byte < 256) bytes.now }
-{}
 
 /// A search of the haystack from an offset on.
 pub(crate) fn search_from(haystack: &[u8], from: usize) -> Input<'_>
@@ -103,25 +98,22 @@ impl Regex {
     }
 
     /// A search by the automata.
-    fn find_by_pair(
+    fn find_by_automata(
         &self,
-        cache: &mut regex_pair::regex::Cache,
+        cache: &mut Cache,
         haystack: &[u8],
         from: usize,
     ) -> Result<Option<FoundMatch>, MatchError>
-        requires own { AreCachesOf self.now.pair cache.old }
+        requires own { IsCacheOf self.now cache.old }
         requires within { from ≤ length haystack.now }
         requires valid { (config_by self.now).utf8 ≡ true → IsValidText haystack.now }
-        ensures own { AreCachesOf self.now.pair cache.new }
+        ensures own { IsCacheOf self.now cache.new }
         ensures found { IfOk result (HasFoundStart (config_by self.now) self.now.texts haystack.now from) }
         ensures preferred { self.now.loops ≡ true → IfOk result (HasFoundSpan (config_by self.now) self.now.texts haystack.now from) }
     {
         see_bytes(haystack);
         regexes_answer_what_is_written();
-        let found = match find(self.pair(), cache, &search_from(haystack, from)) {
-            Ok(found) => found,
-            Err(e) => return Err(e),
-        };
+        let found = cache.automata.find(&search_from(haystack, from))?;
         Ok(row(found))
     }
 
@@ -170,7 +162,7 @@ impl Regex {
         let Some(searcher) = &mut cache.wordless else {
             return Some(from);
         };
-        match searcher.least_start(haystack, from) {
+        match least_start(searcher, haystack, from) {
             Ok(start) => start,
             Err(_) => Some(from),
         }
@@ -192,7 +184,7 @@ impl Regex {
         ensures preferred { self.now.loops ≡ true → IfOk result (HasFoundSpan (config_by self.now) self.now.texts haystack.now from) }
         ensures refused { IfErr result (IsSearchError (config_by self.now) haystack.now) }
     {
-        let error = match self.find_by_pair(&mut cache.pair, haystack, from) {
+        let error = match self.find_by_automata(cache, haystack, from) {
             Ok(found) => return Ok(found),
             Err(error) => error,
         };
@@ -271,7 +263,7 @@ impl Regex {
         ensures preferred { self.now.loops ≡ true → IfOk result (HasFoundSpan (config_by self.now) self.now.texts haystack.now from) }
         ensures refused { IfErr result (IsSearchError (config_by self.now) haystack.now) }
     {
-        let error = match self.find_by_pair(&mut cache.pair, haystack, from) {
+        let error = match self.find_by_automata(cache, haystack, from) {
             Ok(found) => return Ok(found),
             Err(error) => error,
         };

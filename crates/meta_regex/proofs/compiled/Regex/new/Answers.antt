@@ -1,4 +1,6 @@
-use Rattle.std.proofs.Common.{List, ℕ, refl, subst, sym}
+use Rattle.std.proofs.Common.{List, map, ℕ, refl, subst, sym}
+use Rattle.std.specs.Prelude.{string_bytes}
+use Rattle.regex_pair.specs.Pairs.{Pair}
 use Rattle.hir_core.specs.Tree.{Tree, alternation}
 use Rattle.search_types.specs.declared.match_kind.MatchKind.TheVariants.{LeftmostFirst}
 use Rattle.pattern_search.specs.Texts.{AllMean}
@@ -10,8 +12,10 @@ use Rattle.meta_regex.proofs.compiled.Regex.new.Goals as goal
 
 pub invariant_of-result : goal.invariant_of-result
 invariant_of-result c = (
-  subst (λ (ts : List (List ℕ)). AreReportedOf (config_of c.args.options.now) ts LeftmostFirst c.in-Ok.built.loops c.in-Ok.built.pair)
-      (sym c.in-Ok-owned.ensures) c.in-Ok.ensures.made.0,
+  subst (λ (p : Pair). AreReportedOf (config_of c.args.options.now) (map string_bytes c.in-Ok-owned.copies.items) LeftmostFirst
+      c.in-Ok.built.loops p) (sym c.in-Ok-shared.ensures)
+      (subst (λ (ts : List (List ℕ)). AreReportedOf (config_of c.args.options.now) ts LeftmostFirst c.in-Ok.built.loops c.in-Ok.built.pair)
+      (sym c.in-Ok-owned.ensures) c.in-Ok.ensures.made.0),
   record {
     trees = c.in-Ok.built.trees.items;
     mean = subst (λ (ts : List (List ℕ)). AllMean (config_of c.args.options.now) ts c.in-Ok.built.trees.items) (sym c.in-Ok-owned.ensures)

@@ -1,0 +1,68 @@
+-- What is known of a cache and its automata after a search.
+use Rattle.std.proofs.Common.{◌≡◌, ℕ, Bool, List, sym, subst}
+use Rattle.std.specs.Prelude.{IfSome}
+use Rattle.regex_syntax.specs.declared.Config.{Config}
+use Rattle.search_types.specs.declared.match_kind.MatchKind.{MatchKind}
+use Rattle.search_types.specs.declared.match_kind.MatchKind.TheVariants.{LeftmostFirst}
+use Rattle.regex_pair.specs.Pairs.{Pair}
+use Rattle.growing_regex.specs.Growing.{AreGrown, Growing, sized_settings}
+use Rattle.meta_regex.specs.declared.cache.Cache.{Cache}
+use Rattle.meta_regex.specs.declared.options.Options.{Options}
+use Rattle.meta_regex.specs.Caches.{AreAutomataOf, AreWordlessAutomataOf, IsCacheOf, KeepsCapacity}
+use Rattle.meta_regex.specs.Regexes.{AreBuiltOf, AreReportedOf, RegexValue, config_by}
+use Rattle.meta_regex.specs.Wordless.{AreWordlessOf}
+
+-- what is known of the automata of a cache
+pub reported_of : (v : RegexValue) (g : Growing) → AreAutomataOf v g → AreReportedOf (config_by v) v.texts LeftmostFirst v.loops g.pair
+unfolding AreAutomataOf
+reported_of v g it = it.0
+
+pub wordless_of : (v : RegexValue) (g : Growing) → AreWordlessAutomataOf v g → AreWordlessOf (config_by v) v.texts LeftmostFirst g.pair
+unfolding AreWordlessAutomataOf
+wordless_of v g it = it.0
+
+pub automata_of : (v : RegexValue) (g : Growing) → AreReportedOf (config_by v) v.texts LeftmostFirst v.loops g.pair → KeepsCapacity v g →
+    AreAutomataOf v g
+unfolding AreAutomataOf
+automata_of v g reported kept = (reported, kept)
+
+pub wordless_automata_of : (v : RegexValue) (g : Growing) → AreWordlessOf (config_by v) v.texts LeftmostFirst g.pair → KeepsCapacity v g →
+    AreWordlessAutomataOf v g
+unfolding AreWordlessAutomataOf
+wordless_automata_of v g wordless kept = (wordless, kept)
+
+-- a search leaves automata of the patterns
+pub automata_kept : (v : RegexValue) (c : Cache) (g : Growing) → g ≡ c.automata → IsCacheOf v c → IsCacheOf v (record c { automata = g })
+automata_kept v c g same it = record {
+  automata = subst (AreAutomataOf v) (sym same) it.automata;
+  overlapping = it.overlapping;
+  fallbacks = it.fallbacks;
+  wordless = it.wordless;
+  wordless_overlapping = it.wordless_overlapping;
+}
+
+-- new caches are enlarged only if no capacity is set
+pub capacity_kept : (v : RegexValue) (o : Options) (g : Growing) (pair : Pair) (largest : ℕ) → o ≡ v.options →
+    IfSome o.cache_capacity (λ _. largest ≡ 0) → g ≡ record { pair = pair; largest = largest } → KeepsCapacity v g
+capacity_kept v o g pair largest same kept is =
+    subst (KeepsCapacity v) (sym is) (subst (λ (p : Options). IfSome p.cache_capacity (λ _. largest ≡ 0)) same kept)
+
+-- automata with caches of another capacity are of the same patterns
+built_grown : (config : Config) (texts : List (List ℕ)) (kind : MatchKind) (g : Growing) (p : Pair) → AreBuiltOf config texts kind g.pair →
+    AreGrown g p → AreBuiltOf config texts kind p
+built_grown config texts kind g p it grown = record {
+  trees = it.trees;
+  settings = sized_settings grown.capacity it.settings;
+  mean = it.mean;
+  built = grown.built it.trees it.settings it.built;
+  kind_is = it.kind_is;
+  lines = it.lines;
+  mode = it.mode;
+  utf8_trees = it.utf8_trees;
+}
+
+-- and of the same loops
+pub reported_grown : (config : Config) (texts : List (List ℕ)) (kind : MatchKind) (loops : Bool) (g : Growing) (p : Pair) →
+    AreReportedOf config texts kind loops g.pair → AreGrown g p → AreReportedOf config texts kind loops p
+unfolding built_grown
+reported_grown config texts kind loops g p it grown = (built_grown config texts kind g p it.0 grown, it.1)
