@@ -166,8 +166,9 @@ typedef struct hanneddois_options {
     uint32_t flags;
     /* How deep groups, classes and repetitions of a pattern may nest; 0 for 250. Deeper ones need a larger stack. */
     uint32_t nest_limit;
-    /* How many bytes each of both caches may take. With 0 these are 2 MiB, and more, up to 256 MiB, where searches for
-       matches clear their caches too soon. */
+    /* How many bytes each of both caches may take. A capacity that is set is never exceeded, unless
+       HANNEDDOIS_RAISE_CAPACITY raises it. With 0, each may take 2 MiB at first. If searches for matches clear it too soon,
+       it is enlarged, up to 256 MiB. The caches of hanneddois_matching_patterns and of streams stay at 2 MiB. */
     size_t capacity;
     /* How many bytes each of both automata may take, and the automaton that finds the groups of a pattern; 0 for
        64 MiB. */
@@ -383,8 +384,8 @@ size_t hanneddois_error_text(const hanneddois_error *error, uint8_t *text, size_
 /* An estimate of how many bytes the caches of the regex need now; 0 if it is empty. */
 size_t hanneddois_memory_usage(hanneddois_regex *regex);
 
-/* How often the caches of the regex were cleared since it was made, also those that larger ones have replaced; 0 if it
-   is empty. */
+/* How often the caches of the regex were cleared since it was made, also those that larger ones have replaced; 0 if
+   it is empty. */
 size_t hanneddois_clear_count(hanneddois_regex *regex);
 
 /*

@@ -79,7 +79,9 @@ struct options {
     flag flags = flag::none;
     /* How deep groups, classes and repetitions of a pattern may nest; 0 for 250. Deeper ones need a larger stack. */
     std::uint32_t nest_limit = 0;
-    /* How many bytes each of both caches may take; 0 for 2 MiB. */
+    /* How many bytes each of both caches may take. A capacity that is set is never exceeded, unless
+       flag::raise_capacity raises it. With 0, each may take 2 MiB at first. If searches for matches clear it too soon, it
+       is enlarged, up to 256 MiB. The caches of matching_patterns and of streams stay at 2 MiB. */
     std::size_t capacity = 0;
     /* How many bytes each of both automata may take, and the automaton that finds the groups of a pattern; 0 for
        64 MiB. */
@@ -485,7 +487,7 @@ public:
     }
     /* An estimate of how many bytes its caches need now. */
     std::size_t memory_usage() noexcept { return hanneddois_memory_usage(&handle_); }
-    /* How often its caches were cleared since it was made. */
+    /* How often its caches were cleared since it was made, also those that larger ones have replaced. */
     std::size_t clear_count() noexcept { return hanneddois_clear_count(&handle_); }
 
     /* The handle for the calls of hanneddois.h. It stays owned by this regex. */

@@ -346,7 +346,7 @@ class Matcher:
     patterns = property(lambda self: self._patterns, doc="The patterns, as they were given.")
     flags = property(lambda self: self._options[0], doc="The flags.")
     nest_limit = property(lambda self: self._options[1], doc="How deep groups, classes and repetitions may nest; 0 for 250.")
-    capacity = property(lambda self: self._options[2], doc="How many bytes each of both caches may take; 0 for 2 MiB, and for a Regex up to 256 MiB where that is too little.")
+    capacity = property(lambda self: self._options[2], doc="How many bytes each of both caches may take, which is never exceeded; 0 for 2 MiB, and up to 256 MiB if searches for matches need more.")
     size_limit = property(lambda self: self._options[3], doc="How many bytes each of both automata may take; 0 for 64 MiB.")
     pattern_count = property(lambda self: len(self._patterns), doc="How many patterns there are.")
 
@@ -632,7 +632,7 @@ class Matcher:
 
     @property
     def clear_count(self):
-        """How often these caches were cleared."""
+        """How often these caches were cleared, also those that larger ones have replaced."""
         return self._sum_of(_locked.hanneddois_clear_count)
 
 

@@ -2554,7 +2554,7 @@ static PyObject *matcher_group_names(PyObject *self, void *Py_UNUSED(closure))
 static PyGetSetDef matcher_properties[] = {
     {"group_names", matcher_group_names, NULL, "For each pattern a tuple of the names of its groups, with None for a group that has none.", NULL},
     {"memory_usage", matcher_memory_usage, NULL, "An estimate of how many bytes the caches need now, without those that searches are using.", NULL},
-    {"clear_count", matcher_clear_count, NULL, "How often these caches were cleared.", NULL},
+    {"clear_count", matcher_clear_count, NULL, "How often these caches were cleared, also those that larger ones have replaced.", NULL},
     {NULL, NULL, NULL, NULL, NULL},
 };
 
@@ -2562,7 +2562,7 @@ static PyMemberDef matcher_members[] = {
     {"patterns", T_OBJECT, offsetof(Matcher, given), READONLY, "The patterns, as they were given."},
     {"pattern_count", T_PYSSIZET, offsetof(Matcher, count), READONLY, "How many patterns there are."},
     {"flags", T_UINT, offsetof(Matcher, options.flags), READONLY, "The flags."},
-    {"capacity", T_PYSSIZET, offsetof(Matcher, options.capacity), READONLY, "How many bytes each of both caches may take; 0 for 2 MiB, and for a Regex up to 256 MiB where that is too little."},
+    {"capacity", T_PYSSIZET, offsetof(Matcher, options.capacity), READONLY, "How many bytes each of both caches may take, which is never exceeded; 0 for 2 MiB, and up to 256 MiB if searches for matches need more."},
     {"size_limit", T_PYSSIZET, offsetof(Matcher, options.size_limit), READONLY, "How many bytes each of both automata may take; 0 for 64 MiB."},
     {"nest_limit", T_UINT, offsetof(Matcher, options.nest_limit), READONLY, "How deep groups, classes and repetitions may nest; 0 for 250."},
     {NULL, 0, 0, 0, NULL},

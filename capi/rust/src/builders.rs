@@ -118,7 +118,10 @@ macro_rules! options {
             self
         }
 
-        /// How many bytes each of both caches may take. The default, for which 0 stands, is 2 MiB, and up to 256 MiB where that is too little.
+        /// How many bytes each of both caches may take. A limit that is set is never exceeded, unless
+        /// [`skip_cache_capacity_check`](Self::skip_cache_capacity_check) raises it. The default, for which 0 stands, is
+        /// 2 MiB at first. If searches for matches clear a cache too soon, it is enlarged, up to 256 MiB. The caches of
+        /// `matching_patterns` and of streams stay at 2 MiB.
         pub fn dfa_size_limit(&mut self, bytes: usize) -> &mut Self {
             self.0.options.capacity = bytes;
             self

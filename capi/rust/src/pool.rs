@@ -219,7 +219,7 @@ impl<'r> Searcher<'r> {
         self.handle.memory_usage()
     }
 
-    /// How often the caches were cleared since they were made.
+    /// How often the caches were cleared since they were made, also those that larger ones have replaced.
     pub fn clear_count(&mut self) -> usize {
         self.handle.clear_count()
     }

@@ -140,7 +140,8 @@ impl Compiled {
         self.regex.pattern_count()
     }
 
-    /// How often the caches of its automata were cleared. The greatest number stands for any number above it.
+    /// How often the caches of its automata were cleared, also those that larger ones have replaced. The greatest number stands for any number
+    /// above it.
     pub fn clear_count(&self) -> usize {
         self.cache.clear_count()
     }

@@ -249,7 +249,7 @@ pub extern "C" fn hanneddois_memory_usage(alloc: Global, regex: &mut Handle) -> 
     bytes
 }
 
-/// How often the caches were cleared.
+/// How often the caches were cleared, also those that larger ones have replaced.
 #[unsafe(no_mangle)]
 pub extern "C" fn hanneddois_clear_count(alloc: Global, regex: &mut Handle) -> usize
     ensures same { regex.new.value ≡ regex.old.value }

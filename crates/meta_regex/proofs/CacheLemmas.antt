@@ -1,6 +1,5 @@
 -- What is known of a cache and its automata after a search.
-use Rattle.std.proofs.Common.{◌≡◌, ℕ, Bool, List, sym, subst}
-use Rattle.std.specs.Prelude.{IfSome}
+use Rattle.std.proofs.Common.{◌≡◌, ◌∙◌, ℕ, Bool, List, ap, sym, subst}
 use Rattle.regex_syntax.specs.declared.Config.{Config}
 use Rattle.search_types.specs.declared.match_kind.MatchKind.{MatchKind}
 use Rattle.search_types.specs.declared.match_kind.MatchKind.TheVariants.{LeftmostFirst}
@@ -9,6 +8,7 @@ use Rattle.growing_regex.specs.Growing.{AreGrown, Growing, sized_settings}
 use Rattle.meta_regex.specs.declared.cache.Cache.{Cache}
 use Rattle.meta_regex.specs.declared.options.Options.{Options}
 use Rattle.meta_regex.specs.Caches.{AreAutomataOf, AreWordlessAutomataOf, IsCacheOf, KeepsCapacity}
+use Rattle.meta_regex.specs.Options.{largest_capacity}
 use Rattle.meta_regex.specs.Regexes.{AreBuiltOf, AreReportedOf, RegexValue, config_by}
 use Rattle.meta_regex.specs.Wordless.{AreWordlessOf}
 
@@ -41,11 +41,11 @@ automata_kept v c g same it = record {
   wordless_overlapping = it.wordless_overlapping;
 }
 
--- new caches are enlarged only if no capacity is set
-pub capacity_kept : (v : RegexValue) (o : Options) (g : Growing) (pair : Pair) (largest : ℕ) → o ≡ v.options →
-    IfSome o.cache_capacity (λ _. largest ≡ 0) → g ≡ record { pair = pair; largest = largest } → KeepsCapacity v g
+-- new caches are enlarged up to the largest capacity
+pub capacity_kept : (v : RegexValue) (o : Options) (g : Growing) (pair : Pair) (largest : ℕ) → o ≡ v.options → largest ≡ largest_capacity o →
+    g ≡ record { pair = pair; largest = largest } → KeepsCapacity v g
 capacity_kept v o g pair largest same kept is =
-    subst (KeepsCapacity v) (sym is) (subst (λ (p : Options). IfSome p.cache_capacity (λ _. largest ≡ 0)) same kept)
+    ap (λ (x : Growing). x.largest) is ∙ kept ∙ ap (λ (p : Options). largest_capacity p) same
 
 -- automata with caches of another capacity are of the same patterns
 built_grown : (config : Config) (texts : List (List ℕ)) (kind : MatchKind) (g : Growing) (p : Pair) → AreBuiltOf config texts kind g.pair →

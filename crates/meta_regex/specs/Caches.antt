@@ -3,13 +3,14 @@ use Rattle.std.specs.Prelude.{◌≡◌, IfSome}
 use Rattle.search_types.specs.declared.match_kind.MatchKind.TheVariants.{All as AllMatches, LeftmostFirst}
 use Rattle.growing_regex.specs.Growing.{Growing}
 use Rattle.meta_regex.specs.declared.cache.Cache.{Cache}
+use Rattle.meta_regex.specs.Options.{largest_capacity}
 use Rattle.meta_regex.specs.Regexes.{AreBuiltOf, AreReportedOf, RegexValue, config_by}
 use Rattle.meta_regex.specs.Fallbacks.{AreFallbacksOf}
 use Rattle.meta_regex.specs.Wordless.{AreWordlessOf}
 
--- If the options set a capacity of caches, these are never enlarged.
+-- Caches are enlarged up to 256 MiB, and never if the options set a capacity.
 abbrev pub KeepsCapacity : RegexValue → Growing → Type 0
-KeepsCapacity v g = IfSome v.options.cache_capacity (λ _. g.largest ≡ 0)
+KeepsCapacity v g = g.largest ≡ largest_capacity v.options
 
 -- Automata that are built from trees of the patterns of the regex.
 unfoldable pub AreAutomataOf : RegexValue → Growing → Type 0

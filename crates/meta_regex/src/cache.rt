@@ -19,7 +19,11 @@ use literal_search::Effort;
 use search_types::MatchKind;
 use std::alloc::{AllocError, Global};
 
-/// The caches of a regex's automata, and what its searches made later. It is usable only with the regex for which it was made.
+/// The caches of a regex's automata, and what its searches made later. It is usable only with a regex of the same patterns and options as the
+/// one for which it was made.
+///
+/// If the options set no capacity, caches that searches for matches clear too soon are enlarged, up to 256 MiB each. A capacity that is set
+/// is never exceeded.
 ///
 /// Other parts are made once a search needs them: the automaton that reports which patterns match, the automata without looks at words,
 /// and the toolchain's programs.
@@ -35,7 +39,8 @@ pub struct Cache {
 }
 
 impl Cache {
-    /// How often the caches of the automata were cleared, those included that have been replaced by larger ones. The greatest number stands for any number above it.
+    /// How often the caches of the automata were cleared, also those that larger ones have replaced. The greatest number stands for any number
+    /// above it.
     pub fn clear_count(&self) -> usize {
         let clears = self.automata.clear_count();
         let clears = match &self.overlapping {
@@ -71,7 +76,7 @@ impl Cache {
 }
 
 impl Regex {
-    /// A cache for this regex, which holds no states.
+    /// A cache for this regex, which holds no states. Its automata are those of the regex.
     pub fn create_cache(&self, alloc: Global) -> Result<Cache, AllocError>
         ensures { IfOk result (IsCacheOf self.now) }
     {

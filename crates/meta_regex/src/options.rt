@@ -1,6 +1,6 @@
 //! How a regex is made, and how its caches behave.
-ghost use Rattle.std.specs.Prelude.{◌≡◌, IfSome};
-ghost use Rattle.meta_regex.specs.Options.{dfa_options_of, settings_of};
+ghost use Rattle.std.specs.Prelude.{◌≡◌};
+ghost use Rattle.meta_regex.specs.Options.{dfa_options_of, largest_capacity, settings_of};
 
 use growing_regex::LARGEST;
 use hir_regex::Settings;
@@ -23,8 +23,9 @@ pub struct Options {
     pub shrink: bool,
     /// How many bytes each of both NFAs may take; `None` means any number.
     pub size_limit: Option<usize>,
-    /// How many bytes each of both caches may take. `None` means the default of [`lazy_dfa`]; then caches are enlarged, up to 256 MiB, if they
-    /// are cleared too soon.
+    /// How many bytes each of both caches may take. A capacity that is set is never exceeded, unless `skip_cache_capacity_check` raises it.
+    /// `None` means the default of [`lazy_dfa`], 2 MiB, at first. If searches for matches clear a cache too soon, it is enlarged, up to
+    /// 256 MiB.
     pub cache_capacity: Option<usize>,
 }
 
@@ -44,9 +45,9 @@ impl Options {
         }
     }
 
-    /// The largest capacity in bytes to which caches are enlarged. It is 0 if a capacity is set: then they are never enlarged.
+    /// The largest capacity in bytes to which caches are enlarged. If a capacity is set, it is 0: then they are never enlarged.
     pub(crate) fn largest_capacity(&self) -> usize
-        ensures { IfSome self.now.cache_capacity (λ _. result ≡ 0) }
+        ensures { result ≡ largest_capacity self.now }
     {
         match self.cache_capacity {
             Some(_) => 0,
