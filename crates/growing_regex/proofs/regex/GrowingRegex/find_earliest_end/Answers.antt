@@ -1,11 +1,10 @@
-use Rattle.std.proofs.Common.{Err, List, Ok, Option, ℕ, sym, subst}
+use Rattle.std.proofs.Common.{Option, ℕ, sym, subst}
 use Rattle.std.specs.Prelude.{IfErr, IfOk, Result, length}
-use Rattle.search_types.specs.Found.{HalfFound}
 use Rattle.search_types.specs.Inputs.{Search}
 use Rattle.search_types.specs.declared.match_error.MatchErrorKind.{MatchErrorKind}
 use Rattle.lazy_dfa.specs.SearchAnswers.{Answers}
 use Rattle.regex_pair.specs.Pairs.{Pair}
-use Rattle.growing_regex.specs.Earliest.{IsEarliestEnd, IsEarliestError, looks_by}
+use Rattle.growing_regex.specs.Earliest.{IsEarliestEnd, IsEarliestError, earliest_search, looks_by}
 use Rattle.growing_regex.specs.Growing.{AreGrown, Growing, sized_settings}
 use Rattle.growing_regex.proofs.AnswerLemmas.{ends_found, ends_refused}
 use Rattle.growing_regex.proofs.GrownLemmas.{error_kept}
@@ -23,7 +22,7 @@ returns-clause-found c xs s built first plain words set =
     (sym c.end_of-found.ensures)
     (ends_found xs (looks_by words s h) h c.args.at c.search_counted-half.result
     (λ o is. c.calls_report_the_least_end.ensures.found xs (sized_settings grown.capacity s) p (grown.built xs s built) first plain h
-    c.see_bytes.ensures words set c.args.at v o (subst (Answers p.forward v _) is answer)))
+    c.see_bytes.ensures words set c.args.at v o (subst (Answers p.forward v (earliest_search h c.args.at (length h))) is answer)))
 
 pub returns-clause-refused : goal.returns-clause-refused
 returns-clause-refused c xs s built first plain words set =
@@ -37,4 +36,4 @@ returns-clause-refused c xs s built first plain words set =
     (ends_refused (λ e. IsEarliestError words xs s h c.args.at e) c.search_counted-half.result
     (λ e is. error_kept words xs s grown.capacity h c.args.at e
     (c.calls_report_the_least_end.ensures.refused xs (sized_settings grown.capacity s) p (grown.built xs s built) first plain h
-    c.see_bytes.ensures words set c.args.at v e (subst (Answers p.forward v _) is answer))))
+    c.see_bytes.ensures words set c.args.at v e (subst (Answers p.forward v (earliest_search h c.args.at (length h))) is answer))))
