@@ -1,5 +1,5 @@
 -- The toolchain's matcher finds nothing before the next offset at which a match may start by its literals.
-use Rattle.std.proofs.Common.{◌≡◌, ◌||◌, ◌+◌, ◌-◌, ℕ, zero, suc, ◌<◌, ◌≤◌, Bool, false, List, [], ◌∷◌, length, All, Option, Some, None, option_map, slice_get}
+use Rattle.std.proofs.Common.{◌≡◌, ◌+◌, ◌-◌, ℕ, zero, suc, ◌<◌, ◌≤◌, false, List, [], ◌∷◌, length, All, Option, Some, None, option_map, slice_get}
 use Rattle.std.proofs.Common.{sym, ap, ◌∙◌, subst, arith, inl, inr}
 use Rattle.std.specs.Prelude.{IfSome}
 use Rattle.std.proofs.lemmas.Bool.{cases_lt}
@@ -26,7 +26,7 @@ use Rattle.meta_regex.specs.declared.anchored.Step.{Step}
 use Rattle.meta_regex.specs.declared.anchored.Step.TheVariants.{Done, Next}
 use Rattle.meta_regex.specs.declared.found_match.FoundMatch.{FoundMatch}
 use Rattle.meta_regex.specs.Regexes.{HasFoundStart, HasFoundSpan}
-use Rattle.meta_regex.specs.Starts.{HasSoughtSpan, HasStepSpan, IsInLine, IsSought, IsStep, NoneStartsAt}
+use Rattle.meta_regex.specs.Starts.{HasSoughtSpan, HasStepSpan, IsSought, IsStep, NoneStartsAt}
 use Rattle.meta_regex.specs.Wordless.{MayBeginAt}
 use Rattle.meta_regex.proofs.WordlessLemmas.{one_of_patterns}
 

@@ -1,4 +1,4 @@
-use Rattle.std.proofs.Common.{◌≡◌, ◌∙◌, ℕ, List, Bool, Option, ap, false, length, replicate, rules, subst, sym}
+use Rattle.std.proofs.Common.{◌≡◌, ◌∙◌, ℕ, Option, ap, false, length, replicate, rules, subst, sym}
 use Rattle.std.specs.Prelude.{IfSome}
 use Rattle.search_types.specs.declared.match_kind.MatchKind.TheVariants.{All as AllMatches}
 use Rattle.regex_pair.specs.Pairs.{Pair}

@@ -1,4 +1,4 @@
-use Rattle.std.proofs.Common.{sym, subst, ◌∙◌}
+use Rattle.std.proofs.Common.{sym, subst}
 use Rattle.regex_pair.specs.Pairs.{Pair}
 use Rattle.search_types.specs.declared.match_kind.MatchKind.TheVariants.{LeftmostFirst}
 use Rattle.growing_regex.specs.Growing.{Growing}
