@@ -81,7 +81,7 @@ struct options {
     std::uint32_t nest_limit = 0;
     /* How many bytes each of both caches may take. A capacity that is set is never exceeded, unless
        flag::raise_capacity raises it. With 0, each may take 2 MiB at first. If searches for matches clear it too soon, it
-       is enlarged, up to 256 MiB. The caches of matching_patterns and of streams stay at 2 MiB. */
+       is enlarged, up to 256 MiB. The caches of matching_patterns and of streams are never enlarged. */
     std::size_t capacity = 0;
     /* How many bytes each of both automata may take, and the automaton that finds the groups of a pattern; 0 for
        64 MiB. */
