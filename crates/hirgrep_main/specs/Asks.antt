@@ -14,7 +14,7 @@ use Rattle.grep_core.specs.declared.output_options.GroupSeparator.{GroupSeparato
 use Rattle.grep_core.specs.declared.output_options.OutputOptions.{OutputOptions}
 use Rattle.hirgrep_main.specs.Binaries.{binary_by}
 use Rattle.hirgrep_main.specs.Readings.{dot_matches_feeds, most_given, reading_given}
-use Rattle.hirgrep_main.specs.SmartCase.{ignores_case}
+use Rattle.grep_cli.specs.SmartCase.{ignores_case}
 use Rattle.hirgrep_main.specs.declared.options.asked.Asked.{Asked}
 use Rattle.hirgrep_main.specs.declared.inputs.binary.Binary.{Binary}
 use Rattle.hirgrep_main.specs.declared.inputs.binary.Binary.TheVariants.{AsText}

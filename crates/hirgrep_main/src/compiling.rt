@@ -5,11 +5,11 @@ ghost use Rattle.hirgrep_main.specs.Asks.{with_case};
 
 use crate::options::asked::Asked;
 use crate::options::decisions::lists_matches;
-use crate::options::patterns::{Patterns, strs_of};
-use crate::options::smart_case::ignores_case;
+use crate::options::patterns::Patterns;
 use crate::results::messages::report_no_finder;
 use crate::results::outcome::Outcome;
 use crate::searching::{Files, search_files};
+use grep_cli::{ignores_case, strs_of};
 use line_search::{Finder, LinePatterns, PatternOptions, SearcherError, config_of};
 use std::alloc::AllocError;
 use std::rt::Runtime;

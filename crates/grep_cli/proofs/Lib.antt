@@ -1,0 +1,4 @@
+mod SelectingLemmas
+mod SureLemmas
+pub mod GivenLemmas
+pub mod SmartLemmas

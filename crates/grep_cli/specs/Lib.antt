@@ -1,0 +1,9 @@
+pub mod Counting
+pub mod Entries
+pub mod FileTypes
+pub mod Ignores
+pub mod PrintedNames
+pub mod Selecting
+pub mod SmartCase
+pub mod Strings
+pub mod TypeChanges
