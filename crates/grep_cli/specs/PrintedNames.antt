@@ -1,4 +1,4 @@
--- Names and other texts that are printed, without the control characters that could change what a terminal shows or does.
+-- Names and other strings that are printed, without the control characters that could change what a terminal shows or does.
 use Rattle.std.specs.Prelude.{ℕ, Bool, ◌&&◌, not, List, chars, encode_utf8_all, if◌then◌else◌, map, string_bytes}
 use Rattle.std.specs.Char.{is_control}
 use Rattle.grep_cli.specs.declared.results.shown.PrintedName.{PrintedName}

@@ -1,6 +1,7 @@
 //! What the command line gives.
 pub(crate) mod arguments;
 pub(crate) mod file_types;
+pub(crate) mod flags;
 pub(crate) mod patterns;
 pub(crate) mod sizes;
 pub(crate) mod smart_case;

@@ -7,13 +7,9 @@ use Rattle.grep_core.specs.declared.output_options.OutputOptions.{OutputOptions}
 use Rattle.grep_core.specs.Report.{first_of}
 use Rattle.grep_core.specs.Reporting.{prints_lines}
 use Rattle.grep_cli.specs.Counting.{counted}
-use Rattle.hirgrep_main.specs.declared.options.asked.Devices.{Devices}
-use Rattle.hirgrep_main.specs.declared.options.asked.Devices.TheVariants.{ReadAll, ReadNamed, SkipAll}
 use Rattle.hirgrep_main.specs.declared.options.asked.Asked.{Asked}
-use Rattle.hirgrep_main.specs.declared.options.asked.Names.{Names}
-use Rattle.hirgrep_main.specs.Readings.{is_by_lines, prints_json}
-use Rattle.hirgrep_main.specs.declared.inputs.reading.Reading.{Reading}
-use Rattle.hirgrep_main.specs.declared.options.asked.Names.TheVariants.{Always, Never, IfSeveral}
+use Rattle.grep_cli.specs.Inputs.{is_by_lines, prints_json}
+use Rattle.grep_cli.specs.declared.inputs.reading.Reading.{Reading}
 
 -- ---- what is asked for
 
@@ -74,24 +70,6 @@ is_headed heading print = heading && prints_lines print
 -- An input is read line by line, and there is no name above its lines.
 abbrev pub is_plain : Reading → Bool → Print → Bool
 is_plain reading heading print = is_by_lines reading && not (is_headed heading print)
-
--- Whether names are printed before lines, depending on whether several files may be searched.
-abbrev pub shows_names : Names → Bool → Bool
-shows_names Always several = true
-shows_names Never several = false
-shows_names IfSeveral several = several
-
--- Devices that are found in folders are read.
-abbrev pub reads_found : Devices → Bool
-reads_found ReadAll = true
-reads_found ReadNamed = false
-reads_found SkipAll = false
-
--- Devices that arguments name are read.
-abbrev pub reads_named : Devices → Bool
-reads_named ReadAll = true
-reads_named ReadNamed = true
-reads_named SkipAll = false
 
 -- ---- the outcome
 

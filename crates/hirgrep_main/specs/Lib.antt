@@ -1,7 +1,6 @@
 pub mod Asks
 pub mod Binaries
 pub mod Decisions
-pub mod Given
 pub mod GrepColors
 pub mod Outcomes
 pub mod Readings

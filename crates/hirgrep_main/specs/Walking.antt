@@ -4,8 +4,8 @@ use Rattle.std.specs.declared.io.Error.{Error}
 use Rattle.grep_cli.specs.Counting.{counted}
 use Rattle.hirgrep_main.specs.Outcomes.{with_failure}
 use Rattle.grep_cli.specs.Selecting.{Selection, skips_named}
-use Rattle.hirgrep_main.specs.declared.options.asked.Directories.{Directories}
-use Rattle.hirgrep_main.specs.declared.options.asked.Directories.TheVariants.{Reject, Recurse, Skip}
+use Rattle.grep_cli.specs.declared.options.flags.Directories.{Directories}
+use Rattle.grep_cli.specs.declared.options.flags.Directories.TheVariants.{Reject, Recurse, Skip}
 use Rattle.hirgrep_main.specs.declared.results.outcome.Outcome.{Outcome}
 use Rattle.hirgrep_main.specs.declared.searching.Named.{Named}
 use Rattle.hirgrep_main.specs.declared.searching.Named.TheVariants.{Input, File as NamedFile, Folder as NamedFolder, Device as NamedDevice}

@@ -16,13 +16,14 @@ mod searching;
 mod task;
 
 use crate::compiling::search;
-use crate::options::asked::{asked_of, color_of, groups_of, input_name, is_colorful, template_of};
+use crate::options::asked::{asked_of, groups_of};
 use crate::options::patterns::Patterns;
 use crate::options::texts::GivenTexts;
 use crate::searching::Files;
 use clap::ArgMatches;
 use grep_cli::{
-    Stop, matches_of, names_of_files, print_types, report_error, selection_given, words_of,
+    Stop, color_of, input_name, is_colorful, matches_of, names_of_files, print_types, report_error,
+    selection_given, template_of, words_of,
 };
 use grep_options::is_set;
 use std::alloc::AllocError;

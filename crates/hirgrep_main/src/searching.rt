@@ -1,8 +1,9 @@
 //! Searches files, one after the other.
-ghost use Rattle.std.specs.Prelude.{◌≡◌, [], true, false, None, Result, Ok, IfErr, IfOk, OnOk, codes, map, string_bytes};
-ghost use Rattle.hirgrep_main.specs.Decisions.{reads_found, reads_named, selects_none};
+ghost use Rattle.std.specs.Prelude.{◌≡◌, [], true, false, Result, Ok, IfErr, IfOk, OnOk, codes, map, string_bytes};
+ghost use Rattle.grep_cli.specs.Flags.{reads_found, reads_named};
+ghost use Rattle.hirgrep_main.specs.Decisions.{selects_none};
 ghost use Rattle.hirgrep_main.specs.Readings.{prints_summary};
-ghost use Rattle.hirgrep_main.specs.declared.options.asked.Directories.TheVariants.{Reject, Skip};
+ghost use Rattle.grep_cli.specs.declared.options.flags.Directories.TheVariants.{Reject, Skip};
 ghost use Rattle.hirgrep_main.specs.declared.searching.Named.TheVariants.{Input, File, Folder, Device};
 ghost use Rattle.grep_cli.specs.declared.files.walking.Kind.TheVariants.{Link, Device as FoundDevice, File as FoundFile, Folder as FoundFolder};
 ghost use Rattle.grep_cli.specs.Selecting.{depth_in, enters, selection, skips_found};
@@ -11,14 +12,14 @@ ghost use Rattle.hirgrep_main.specs.Walking.{Tries, is_left_out, leaves_out, may
 ghost use Rattle.hirgrep_main.specs.Outcomes.{Continues, with_failure};
 
 use crate::files::opening::{search_file, search_input};
-use crate::inputs::reading::prints_json;
-use crate::options::asked::{Asked, Directories};
-use crate::options::decisions::{is_named, prints_summary, reads_found, reads_named, selects_none};
+use crate::options::asked::Asked;
+use crate::options::decisions::{prints_summary, selects_none};
 use crate::results::outcome::Outcome;
 use crate::task::Task;
 use grep_cli::{
-    IgnoreFiles, Kind, Selection, hides_controls, is_folder, kind_of, output_file, push_folder,
-    push_found, shown_name, size_at,
+    Directories, IgnoreFiles, Kind, Selection, hides_controls, is_folder, is_named, kind_of,
+    output_file, prints_json, push_folder, push_found, reads_found, reads_named, shown_name,
+    size_at,
 };
 use line_search::Finder;
 use std::alloc::{AllocError, Global};
@@ -428,7 +429,7 @@ pub fn search_files(
     for path in paths {
         let named = named_at(rt, path);
         let several = paths.len() > 1 || may_be_several(searched.directories, &named);
-        let with_name = is_named(&searched, several);
+        let with_name = is_named(searched.names, several);
         let task = Task { with_name, ..task };
         search_as(rt, finder, task, outcome, path, named)?;
         if outcome.ended {

@@ -1,4 +1,4 @@
-//! Standard input, and texts that are read from it or from files.
+//! Standard input, and strings that are read from it or from files.
 
 use std::io::Stdin;
 use std::rt::Runtime;
@@ -12,7 +12,7 @@ pub fn input(rt: &HostRuntime, reports_input: bool) -> Stdin {
     rt.stdin()
 }
 
-/// The text of the file with this name. A dash is standard input.
+/// The content of the file with this name. A dash is standard input.
 pub fn read_text(rt: &HostRuntime, reports_input: bool, name: &str) -> io::Result<String> {
     if name == "-" {
         return io::read_to_string(rt.alloc(), input(rt, reports_input));

@@ -13,10 +13,9 @@ ghost use Rattle.hirgrep_main.specs.Tasks.{count_of, patterns_by};
 ghost use Rattle.grep_cli.specs.PrintedNames.{printed_name};
 
 use crate::files::listing::list_file;
-use crate::inputs::binary::{Binary, prints_lines};
+use crate::inputs::binary::prints_lines;
 use crate::inputs::columns::width_at;
 use crate::inputs::input_report::report_one;
-use crate::inputs::reading::is_by_lines;
 use crate::line_input::{LineInput, begins_with_zero};
 use crate::options::asked::Asked;
 use crate::options::decisions::may_run_on;
@@ -24,7 +23,9 @@ use crate::options::texts::separated_name;
 use crate::results::messages::Causes;
 use crate::results::outcome::Outcome;
 use crate::task::Task;
-use grep_cli::{Counting, Kind, Output, PrintedName, input, is_output, kind_of, shown_name};
+use grep_cli::{
+    Binary, Counting, Kind, Output, PrintedName, input, is_by_lines, is_output, kind_of, shown_name,
+};
 use grep_core::{Headed, OutputOptions};
 use line_search::Finder;
 use std::alloc::{AllocError, Global};

@@ -1,6 +1,6 @@
 use Rattle.std.proofs.Common.{◌∙◌}
-use Rattle.hirgrep_main.proofs.BinaryLemmas.{first_filled}
-use Rattle.hirgrep_main.proofs.inputs.first_bytes.read_first.Goals as goal
+use Rattle.grep_cli.proofs.FirstLemmas.{first_filled}
+use Rattle.grep_cli.proofs.inputs.first_bytes.read_first.Goals as goal
 
 pub returns-clause-first : goal.returns-clause-first
 returns-clause-first g c =

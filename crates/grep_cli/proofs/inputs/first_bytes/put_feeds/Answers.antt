@@ -1,8 +1,8 @@
 use Rattle.std.proofs.Common.{arith, get_or}
 use Rattle.std.proofs.lemmas.List.{get_or_default}
 use Rattle.std.proofs.lemmas.List.Edits.{map_over_more}
-use Rattle.hirgrep_main.specs.Binaries.{zero_as_feed}
-use Rattle.hirgrep_main.proofs.inputs.first_bytes.put_feeds.Goals as goal
+use Rattle.grep_cli.specs.Inputs.{zero_as_feed}
+use Rattle.grep_cli.proofs.inputs.first_bytes.put_feeds.Goals as goal
 
 pub loop-at-preserved : goal.loop-at-preserved
 loop-at-preserved c =

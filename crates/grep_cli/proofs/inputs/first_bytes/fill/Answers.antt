@@ -1,6 +1,6 @@
 use Rattle.std.proofs.Common.{◌∙◌}
-use Rattle.hirgrep_main.proofs.BinaryLemmas.{consumed_more}
-use Rattle.hirgrep_main.proofs.inputs.first_bytes.fill.Goals as goal
+use Rattle.grep_cli.proofs.FirstLemmas.{consumed_more}
+use Rattle.grep_cli.proofs.inputs.first_bytes.fill.Goals as goal
 
 pub loop-done-preserved : goal.loop-done-preserved
 loop-done-preserved g c = record {

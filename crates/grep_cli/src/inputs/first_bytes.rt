@@ -1,12 +1,11 @@
 //! The first bytes of an input, which decide whether it is binary, and what is searched of a binary one.
 ghost use Rattle.std.specs.Prelude.{◌≡◌, ◌<◌, ◌≤◌, ◌+◌, IfOk, IfSome, drop, length, map, take};
 ghost use Rattle.std.specs.Io.KnownBytes.{Consumes, IsAtEnd};
-ghost use Rattle.hirgrep_main.specs.Binaries.{first_len, has_zero, read_ahead, with_feeds, zero_as_feed};
+ghost use Rattle.grep_cli.specs.Inputs.{first_len, has_zero, read_ahead, with_feeds, zero_as_feed};
 ghost use Rattle.std.specs.Io.{ReadsAtMost};
 ghost use Rattle.std.specs.Io.KnownBytes.{ReadConsumes};
 
 use crate::inputs::binary::Binary;
-use line_search::Fault;
 use std::alloc::{AllocError, Global};
 use std::io;
 use std::io::Read;
@@ -68,17 +67,14 @@ fn read_first<R: Read>(alloc: Global, reader: &mut R) -> io::Result<Vec<u8>>
 }
 
 /// The first bytes of a reader, if they decide what is printed. If every input is text, nothing is read.
-pub fn read_ahead<R: Read>(alloc: Global, binary: Binary, reader: &mut R) -> Result<Vec<u8>, Fault>
+pub fn read_ahead<R: Read>(alloc: Global, binary: Binary, reader: &mut R) -> io::Result<Vec<u8>>
     ensures read { IfOk result (λ first. Consumes (R.remaining reader.old) (R.remaining reader.new) first.items) }
     ensures first { IfOk result (λ first. IfSome (R.remaining reader.old) (λ text. first.items ≡ read_ahead binary text)) }
 {
     if binary == Binary::AsText {
         return Ok(Vec::new(alloc));
     }
-    match read_first(alloc, reader) {
-        Ok(first) => Ok(first),
-        Err(e) => Err(Fault::Read(e.kind())),
-    }
+    read_first(alloc, reader)
 }
 
 /// Whether a byte is zero.
@@ -131,7 +127,7 @@ impl<R: Read> Read for Searched<R> {
     ghost use Rattle.std.specs.Prelude.{◌≡◌, option_map};
     ghost use Rattle.std.specs.Io.{ReadsAtMost};
     ghost use Rattle.std.specs.Io.KnownBytes.{ReadConsumes};
-    ghost use Rattle.hirgrep_main.specs.Binaries.{remaining_of};
+    ghost use Rattle.grep_cli.specs.Inputs.{remaining_of};
 
     ghost remaining = { λ s. remaining_of s.binary s.zero (R.remaining s.reader) };
 
