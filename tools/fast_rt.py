@@ -1,16 +1,19 @@
 #!/usr/bin/env python3
 """The toolchain's rt, which computes each crate's checksum once in a call, and whose `try` doesn't look for reserved names. By itself the rt of
 older kits computes a checksum once for each path through crates.txt, thousands for the upper crates: a minute or two for each check of these. `rt try`
-reads all crates a second time for these names, next to the run, which takes as long as what it compiles; rt check finds them too.
+reads all crates a second time for these names, next to the run, which takes as long as what it compiles; rt check finds them too. rt starts some
+programs in a session of their own. Linux may give each session the same share of the processors, whatever its priority, so a session's is lowered too.
 
     tools/fast_rt.py WORD..    rt with these words
 
 Other scripts import it for rt's own module (`load_rtlib`). If rt has another form than this file knows, it is run as it is."""
 
+import contextlib
 import importlib.machinery
 import importlib.util
 import os
 import shutil
+import subprocess
 import sys
 import threading
 
@@ -64,6 +67,22 @@ def leave_out_names(rtlib):
     rtlib.Crate.words = words
 
 
+def keep_priority():
+    """Gives the sessions that this process starts its own priority."""
+    priority = os.getpriority(os.PRIO_PROCESS, 0)
+
+    class Popen(subprocess.Popen):
+        """A process whose session, if it has one of its own, has this priority."""
+
+        def __init__(self, *words, **how):
+            super().__init__(*words, **how)
+            if how.get("start_new_session") and priority > 0:
+                with contextlib.suppress(OSError), open(f"/proc/{self.pid}/autogroup", "w", encoding="ascii") as file:
+                    file.write(str(priority))
+
+    subprocess.Popen = Popen
+
+
 def run_rt(words):
     """Runs the toolchain's rt in this process."""
     with open(RT, encoding="utf-8") as file:
@@ -72,6 +91,7 @@ def run_rt(words):
     if line not in source:
         os.execv(RT, [RT, *words])
     sys.argv = [RT, *words]
+    keep_priority()
     code = source.replace(line, f"{line}compute_once(rtlib)\n{'leave_out_names(rtlib)' if words[:1] == ['try'] else ''}\n", 1)
     names = {"__name__": "__main__", "__file__": RT, "compute_once": compute_once, "leave_out_names": leave_out_names}
     exec(compile(code, RT, "exec"), names)  # pylint: disable=exec-used

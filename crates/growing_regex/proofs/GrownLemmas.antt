@@ -1,6 +1,5 @@
 -- Automata that are those of a regex, except for the capacity of their caches.
-use Rattle.std.proofs.Common.{◌≡◌, ◌<◌, ◌≤◌, ℕ, Bool, List, Option, Some, None, Ok, Err, subst}
-use Rattle.std.specs.Prelude.{IfErr, IfOk, Result, length}
+use Rattle.std.proofs.Common.{◌≡◌, ◌<◌, ◌≤◌, ℕ, Bool, List, Option, Some, None, subst}
 use Rattle.hir_core.specs.Tree.{Tree}
 use Rattle.search_types.specs.declared.match_error.MatchErrorKind.{MatchErrorKind}
 use Rattle.search_types.specs.declared.match_error.MatchErrorKind.TheVariants.{GaveUp, HaystackTooLong, NoMemory, NotAPair, Quit}
@@ -8,7 +7,7 @@ use Rattle.search_types.specs.declared.match_error.MatchErrorKind.TheVariants.{U
 use Rattle.regex_pair.specs.Pairs.{Pair}
 use Rattle.hir_regex.specs.declared.settings.Settings.{Settings}
 use Rattle.hir_regex.specs.Built.{IsBuilt}
-use Rattle.earliest_ends.specs.Earliest.{IsEarliestError}
+use Rattle.growing_regex.specs.Earliest.{IsEarliestError}
 use Rattle.growing_regex.specs.Growing.{AreGrown, Growing, IsResized, sized_settings}
 
 -- the automata as they were made
@@ -28,7 +27,7 @@ grown_again g p q bytes some within resized was = record {
 }
 
 -- an error of a search for the least end says the same, whatever the capacity
-error_kept : (words : ℕ → Bool) (xs : List Tree) (s : Settings) (capacity : Option ℕ) (h : List ℕ) (at : ℕ) (e : MatchErrorKind) →
+pub error_kept : (words : ℕ → Bool) (xs : List Tree) (s : Settings) (capacity : Option ℕ) (h : List ℕ) (at : ℕ) (e : MatchErrorKind) →
     IsEarliestError words xs (sized_settings capacity s) h at e → IsEarliestError words xs s h at e
 error_kept words xs s capacity h at (Quit b x) it = it
 error_kept words xs s capacity h at (GaveUp x) it = it
@@ -36,9 +35,3 @@ error_kept words xs s capacity h at NoMemory it = it
 error_kept words xs s capacity h at (HaystackTooLong n) it = it
 error_kept words xs s capacity h at (UnsupportedAnchored mode) it = it
 error_kept words xs s capacity h at NotAPair it = it
-
-pub errors_kept : (words : ℕ → Bool) (xs : List Tree) (s : Settings) (capacity : Option ℕ) (h : List ℕ) (at : ℕ)
-    (result : Result (Option ℕ) MatchErrorKind) → IfErr result (λ e. IsEarliestError words xs (sized_settings capacity s) h at e) →
-    IfErr result (λ e. IsEarliestError words xs s h at e)
-errors_kept words xs s capacity h at (Ok o) it = it
-errors_kept words xs s capacity h at (Err e) it = error_kept words xs s capacity h at e it

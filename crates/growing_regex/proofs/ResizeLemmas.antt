@@ -1,15 +1,13 @@
 -- Copies of automata with caches of another capacity.
-use Rattle.std.proofs.Common.{◌≡◌, ℕ, false, true, List, Some, sym, ap, ap₂, ◌∙◌, subst}
+use Rattle.std.proofs.Common.{◌≡◌, ℕ, false, true, Some, sym, ap, ap₂, ◌∙◌, subst}
 use Rattle.search_types.proofs.ForCallers.{option_or-None}
-use Rattle.hir_core.specs.Tree.{Tree}
 use Rattle.nfa_core.specs.NfaValue.{Nfa}
 use Rattle.thompson_nfa.specs.Compilations.{IsCompiled}
 use Rattle.lazy_dfa.specs.Building.{built}
 use Rattle.lazy_dfa.specs.ConfigValue.{DfaOptions, changed_dfa_options, no_dfa_options}
 use Rattle.lazy_dfa.specs.Dfas.{Dfa, IsDfa}
 use Rattle.regex_pair.specs.Pairs.{Pair, back_options, pair_built}
-use Rattle.hir_regex.specs.declared.settings.Settings.{Settings}
-use Rattle.hir_regex.specs.Built.{IsBuilt, compile_options}
+use Rattle.hir_regex.specs.Built.{compile_options}
 use Rattle.hir_regex.proofs.ForCallers.{both_built, dfa_is, dfa_ok, pair_ok}
 use Rattle.growing_regex.specs.Growing.{IsResized}
 

@@ -1,5 +1,5 @@
 -- A regex whose caches may be enlarged, and what its searches return.
-use Rattle.std.specs.Prelude.{◌≡◌, ◌<◌, ◌≤◌, ℕ, List, Option, Some, None, IfSome, Result}
+use Rattle.std.specs.Prelude.{◌<◌, ◌≤◌, ℕ, List, Option, Some, None, IfSome, Result}
 use Rattle.hir_core.specs.Tree.{Tree}
 use Rattle.search_types.specs.declared.match_error.MatchErrorKind.{MatchErrorKind}
 use Rattle.search_types.specs.Found.{Found}

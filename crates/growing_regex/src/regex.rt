@@ -7,19 +7,21 @@ ghost use Rattle.regex_pair.specs.Finding.{search_at};
 ghost use Rattle.regex_pair.specs.Pairs.{AreCachesOf};
 ghost use Rattle.hir_regex.specs.declared.settings.Settings.{Settings};
 ghost use Rattle.hir_regex.specs.Built.{IsBuilt, FindsFirst};
-ghost use Rattle.earliest_ends.specs.Earliest.{IsEarliestEnd, IsEarliestError, looks_by};
+ghost use Rattle.growing_regex.specs.Earliest.{IsEarliestEnd, IsEarliestError, looks_by};
 ghost use Rattle.growing_regex.specs.Growing.{AnswersBy, AreGrown, ListsBy};
 
+use crate::earliest_search::{end_of, search_counted, search_from, see_bytes};
+use crate::laws::calls_report_the_least_end;
 use crate::listing::list;
 use crate::resizing::resized;
 use crate::size::Size;
-use earliest_ends::find_earliest_end;
 use hir_regex::find;
 use regex_pair::regex::{Cache, Regex};
 use search_types::{Input, Match, MatchError, MatchErrorKind};
 use std::alloc::{AllocError, Global};
-use std::marker::Model;
+use std::marker::{Brand, Model};
 use std::sync::Arc;
+use std::sync::ledger::Blank;
 
 /// The largest capacity in bytes to which caches are enlarged if nobody asks for another one: 256 MiB.
 pub const LARGEST: usize = 1 << 28;
@@ -213,8 +215,12 @@ impl GrowingRegex {
         }
     }
 
-    /// The least end of the matches of a block that start at an offset or later, or none, as
-    /// [`find_earliest_end`](earliest_ends::find_earliest_end).
+    /// The least end of the matches of a block that start at an offset or later, or none. It is one half search forward.
+    ///
+    /// If the regex is built of trees, finds the leftmost-first match and isn't in UTF-8 mode, this is the least end of all spans that any
+    /// of the trees matches. It holds for every set of word characters at once, and for trees with empty loops, too. A search that reads a
+    /// quit byte fails; then no such span ends before that byte. A search also fails if it is out of memory or gives up. It never gives up if
+    /// no minimum number of clears is set.
     pub fn find_earliest_end(
         &mut self,
         block: &[u8],
@@ -228,7 +234,19 @@ impl GrowingRegex {
         ensures refused { (xs : List Tree) (s : Settings) → IsBuilt xs s self.old.pair → FindsFirst s → s.utf8 ≡ false →
             (words : ℕ → Bool) → IsWordSet words → IfErr result (λ e. IsEarliestError words xs s block.now at e) }
     {
-        let found = find_earliest_end(&self.regex, &mut self.cache, block, at);
+        see_bytes(block);
+        calls_report_the_least_end();
+        let input = search_from(block, at);
+        let first = Blank::new(1);
+        let second = Blank::new(1);
+        let half = search_counted::<Brand, Brand>(
+            &self.regex,
+            &mut self.cache,
+            &input,
+            first,
+            second,
+        );
+        let found = end_of(half);
         self.note(searched_to(&found, block).saturating_sub(at));
         found
     }

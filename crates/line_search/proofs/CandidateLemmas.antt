@@ -27,7 +27,7 @@ use Rattle.hir_regex.specs.Choices.{answer_from}
 use Rattle.hir_regex.specs.LooseAnswers.{IsLooseAnswer}
 use Rattle.line_trees.proofs.ForCallers.{means_in_block, means_in_line, reads_none, feeds_kept, get_dropped}
 use Rattle.line_trees.proofs.ForCallers.{means_wordless, returns_wordless}
-use Rattle.earliest_ends.specs.Earliest.{IsSpanFrom, NoneEndsBefore, IsEarliestEnd, IsEarliestError, looks_by}
+use Rattle.growing_regex.specs.Earliest.{IsSpanFrom, NoneEndsBefore, IsEarliestEnd, IsEarliestError, looks_by}
 use Rattle.search_types.specs.declared.match_error.MatchErrorKind.{MatchErrorKind}
 use Rattle.search_types.specs.declared.match_error.MatchErrorKind.TheVariants.{Quit}
 use Rattle.pattern_text.specs.Words.{word_set}

@@ -10,7 +10,7 @@ use Rattle.hir_core.specs.Means.{Looks, Means}
 use Rattle.hir_core.proofs.ForCallers.{span_forward}
 use Rattle.line_trees.specs.LineTrees.{line_tree, has_crlf, reads_feed, HasNoFeedFrom}
 use Rattle.line_trees.proofs.ForCallers.{feeds_kept, reads_none}
-use Rattle.earliest_ends.specs.Earliest.{looks_by}
+use Rattle.growing_regex.specs.Earliest.{looks_by}
 use Rattle.literal_search.specs.Searches.{EndsFrom, StartsNowhere, IsNextEnd}
 use Rattle.line_search.specs.declared.patterns.PatternOptions.{PatternOptions}
 use Rattle.line_search.specs.BoundedTrees.{IsTreeForLines}

@@ -12,7 +12,7 @@ use Rattle.line_trees.specs.WordlessTrees.{wordless_tree}
 use Rattle.regex_pair.specs.Pairs.{Pair}
 use Rattle.hir_regex.specs.Built.{IsBuilt, quit_bytes_for}
 use Rattle.hir_regex.specs.Headline.{IsQuitNextTo}
-use Rattle.earliest_ends.specs.Earliest.{HasNoSpan, NoneEndsBefore, IsLeastEnd, earliest_search, looks_by}
+use Rattle.growing_regex.specs.Earliest.{HasNoSpan, NoneEndsBefore, IsLeastEnd, earliest_search, looks_by}
 use Rattle.pattern_search.specs.Texts.{AreReadAs}
 use Rattle.line_search.specs.BoundedTrees.{IsTreeForLines}
 use Rattle.line_search.specs.Meant.{line_config}

@@ -6,7 +6,7 @@ ghost use Rattle.hir_core.specs.Tree.{Tree};
 ghost use Rattle.line_trees.specs.LineTrees.{line_tree, has_crlf, HasNoFeedFrom};
 ghost use Rattle.hir_regex.specs.Built.{IsBuilt, FailsBuild};
 ghost use Rattle.ucd_perl.specs.Perl.{is_word_char};
-ghost use Rattle.earliest_ends.specs.Earliest.{IsEarliestEnd, IsEarliestError, looks_by};
+ghost use Rattle.growing_regex.specs.Earliest.{IsEarliestEnd, IsEarliestError, looks_by};
 ghost use Rattle.line_search.specs.BoundedTrees.{IsTreeForLines};
 ghost use Rattle.line_search.specs.declared.patterns.PatternOptions.{PatternOptions};
 ghost use Rattle.line_search.specs.Candidates.{IsCandidatesOf, IsLineStart, HaveNoMatch, HasMatchAt, IsStop, IsStopIfAny};

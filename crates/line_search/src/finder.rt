@@ -236,6 +236,9 @@ impl<'t> Finder<'t> {
         Ok(reached)
     }
 
+    /// Frees what the finder owns.
+    pub fn close(self) {}
+
     /// How often the caches of the automata were cleared. The greatest number stands for any number above it.
     pub fn clear_count(&self) -> usize {
         let clears = self.searcher.clear_count();

@@ -10,11 +10,14 @@ use crate::cache::Cache;
 use crate::lazy_id::LazyStateID;
 use search_core::ByteSet;
 
-/// The cost of finding out which bytes leave a state that then turns out to be unusable.
+/// The cost of finding out which bytes leave a state that then turns out to be unusable, or that replaces another one.
 const LOOK_COST: usize = 128;
 
 /// The number of bytes that are read one by one before a search looks for a state to stop at.
 const STRETCH: usize = 64;
+
+/// As many bytes, while a state is noted. If they don't lead to it, the one that they lead to may be better.
+const LONG_STRETCH: usize = 512;
 
 impl Cache {
     /// The ID at which a search stops that may skip bytes, or the unknown one.
@@ -30,17 +33,22 @@ impl Cache {
     }
 
     /// The offset up to which bytes are read one by one: the end, or the end of a stretch after which a state to stop at is
-    /// looked for.
+    /// looked for. If one is noted, the stretch is longer.
     #[inline(always)]
     pub(crate) fn stretch_end(&self, from: usize, end: usize) -> usize
         requires { from ≤ end }
         ensures low { from ≤ result }
         ensures high { result ≤ end }
     {
-        if !self.skip.stop.is_tagged() || is_used_up(self.skip.credit) || end - from <= STRETCH {
+        let stretch = if self.skip.stop.is_tagged() {
+            STRETCH
+        } else {
+            LONG_STRETCH
+        };
+        if is_used_up(self.skip.credit) || end - from <= stretch {
             return end;
         }
-        from + STRETCH
+        from + stretch
     }
 
     /// What is noted.
@@ -73,7 +81,7 @@ impl Cache {
         }
     }
 
-    /// Notes a state as the one to stop at, if the next byte doesn't leave it.
+    /// Notes a state as the one to stop at, instead of the one that was noted, if the next byte doesn't leave it.
     #[inline(never)]
     pub(crate) fn look(&mut self, id: LazyStateID, byte: u8)
         requires { id < tag }
@@ -84,14 +92,21 @@ impl Cache {
         }
         let set = self.leaving_bytes(id);
         let Some(leaving) = Leaving::new(&set) else {
-            self.skip.credit = self.skip.credit.saturating_sub(LOOK_COST);
+            let credit = self.skip.credit.saturating_sub(LOOK_COST);
+            self.pay(credit);
             return;
         };
         let behind = self.tables_behind(id, &leaving);
+        let cost = if self.skip.stop.is_tagged() {
+            0
+        } else {
+            LOOK_COST
+        };
         self.skip = Skip {
             stop: id,
             leaving,
             behind,
+            credit: self.skip.credit.saturating_sub(cost),
             ..self.skip
         };
     }

@@ -3,8 +3,9 @@
 //! A search may come back to a state that most bytes don't change. It then doesn't read these bytes one by one. It looks for the
 //! next byte that leaves the state, many bytes at once. A cache notes one such state, the state to stop at, with the bytes that
 //! leave it. The cache lasts from search to search. Whatever writes a step forgets the state, since fewer bytes may leave it from
-//! then on. A search looks for such a state again in the next stretch of bytes that it reads one by one. Bytes whose step isn't
-//! known yet count as leaving, and so do quit bytes.
+//! then on. A search looks for such a state again in the next stretch of bytes that it reads one by one. If a long stretch of bytes
+//! doesn't lead to the state that is noted, the one that the search is in then may replace it. Bytes whose step isn't known yet
+//! count as leaving, and so do quit bytes.
 //!
 //! If few bytes leave the state, the byte after one of them may lead the search back to it. The cache then also notes with which
 //! of these next bytes the search may not be back. The search looks for two adjacent bytes: one that leaves, and one of these.

@@ -2,7 +2,7 @@ use Rattle.std.proofs.Common.{List, Option, ℕ, length, sym, subst}
 use Rattle.std.specs.Prelude.{IfErr, IfOk, Result}
 use Rattle.search_types.specs.declared.match_error.MatchErrorKind.{MatchErrorKind}
 use Rattle.ucd_perl.specs.Perl.{is_word_char}
-use Rattle.earliest_ends.specs.Earliest.{IsEarliestEnd, IsEarliestError, looks_by}
+use Rattle.growing_regex.specs.Earliest.{IsEarliestEnd, IsEarliestError, looks_by}
 use Rattle.line_search.specs.Candidates.{IsStopIfAny}
 use Rattle.line_search.specs.Searchers.{line_settings}
 use Rattle.line_search.proofs.CandidateLemmas.{end_told, ends_told}

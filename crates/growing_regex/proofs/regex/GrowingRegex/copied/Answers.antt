@@ -1,4 +1,4 @@
-use Rattle.std.proofs.Common.{sym, subst, ◌∙◌}
+use Rattle.std.proofs.Common.{sym, subst}
 use Rattle.growing_regex.specs.Growing.{AreGrown, Growing}
 use Rattle.growing_regex.proofs.GrownLemmas.{grown_again}
 use Rattle.growing_regex.proofs.regex.GrowingRegex.copied.Goals as goal

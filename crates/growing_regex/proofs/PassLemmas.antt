@@ -19,7 +19,7 @@ use Rattle.lazy_dfa.specs.Readers.{Reader, HalfAnswer, found, quit}
 use Rattle.lazy_dfa.specs.HalfSearches.{first_offset, half_search}
 use Rattle.lazy_dfa.proofs.ForCallers.{scan_is_pass, scan_done}
 use Rattle.hir_regex.proofs.ForCallers.{begins}
-use Rattle.earliest_ends.specs.Earliest.{earliest_search}
+use Rattle.growing_regex.specs.Earliest.{earliest_search}
 
 -- ---- answers that differ
 pub some_is_not_none : (c : ℕ × ℕ) → found (Some c) ≡ found None → ⊥

@@ -1,7 +1,7 @@
 use Rattle.std.proofs.Common.{subst}
 use Rattle.lazy_dfa.specs.Dfas.{Dfa}
 use Rattle.lazy_dfa.specs.SearchAnswers.{Answers}
-use Rattle.earliest_ends.proofs.searching.search_counted.Goals as goal
+use Rattle.growing_regex.proofs.earliest_search.search_counted.Goals as goal
 
 pub returns-clause-answer : goal.returns-clause-answer
 returns-clause-answer g c =

@@ -1,9 +1,10 @@
 -- What calls of a half search for the earliest end answer, by what the search over values answers.
 use Rattle.std.proofs.Common.{◌≡◌, ◌⊎◌, inl, inr, ℕ, ◌<◌, Bool, true, false, List, length, Option, Some, None, All, refl, sym}
 use Rattle.std.proofs.Common.{ap, ◌∙◌, subst, arith}
-use Rattle.std.specs.Prelude.{Result, Ok, Err}
+use Rattle.std.specs.Prelude.{IfErr, IfOk, Result, Ok, Err}
 use Rattle.search_core.specs.ByteSets.{has}
 use Rattle.look_core.specs.Looks.{IsWordSet}
+use Rattle.hir_core.specs.Means.{Looks}
 use Rattle.hir_core.specs.Tree.{Tree}
 use Rattle.search_types.specs.declared.anchored.Anchored.{Anchored}
 use Rattle.search_types.specs.declared.match_error.MatchErrorKind.{MatchErrorKind}
@@ -25,8 +26,8 @@ use Rattle.hir_regex.specs.declared.settings.Settings.{Settings}
 use Rattle.hir_regex.specs.Built.{IsBuilt, quit_bytes_for}
 use Rattle.hir_regex.specs.Regexes.{IsRegexOf}
 use Rattle.hir_regex.proofs.ForCallers.{both_built, dfa_is}
-use Rattle.earliest_ends.specs.Earliest.{IsEarliest, IsEarliestEnd, IsEarliestError, earliest_search, looks_by}
-use Rattle.earliest_ends.proofs.SpanLemmas.{found_is_earliest, quit_is_before, never_unsupported}
+use Rattle.growing_regex.specs.Earliest.{IsEarliest, IsEarliestEnd, IsEarliestError, earliest_search, end_result, looks_by}
+use Rattle.growing_regex.proofs.SpanLemmas.{found_is_earliest, quit_is_before, never_unsupported}
 
 -- ---- answers, by their kinds
 abbrev Answer : Type 0
@@ -113,15 +114,15 @@ module _ (xs : List Tree) (s : Settings) (p : Pair) (made : IsBuilt xs s p) (reg
       (λ none. never_among p.forward v (forward_clears xs s p made none) q gave.0 (scans_of (reader p.forward) q) gave.2)
 
 -- ---- the end alone
-module _ (xs : List Tree) (s : Settings) (words : ℕ → Bool) (h : List ℕ) (at : ℕ) (o : Option HalfFound)
-    (is : IsEarliest xs (looks_by words s h) h at (length h) o) where
-  abbrev End : Option HalfFound → Type 0
-  End u = IsEarliest xs (looks_by words s h) h at (length h) u
+pub ends_found : (xs : List Tree) (looks : Looks) (h : List ℕ) (at : ℕ) (r : Result (Option HalfFound) MatchErrorKind) →
+    ((o : Option HalfFound) → r ≡ Ok o → IsEarliest xs looks h at (length h) o) →
+    IfOk (end_result r) (λ o. IsEarliestEnd xs looks h at (length h) o)
+ends_found xs looks h at (Ok None) law = law None refl
+ends_found xs looks h at (Ok (Some f)) law = (f.pattern, law (Some f) refl)
+ends_found xs looks h at (Err e) law = tt
 
-  pub end_of_none : o ≡ None → IsEarliestEnd xs (looks_by words s h) h at (length h) None
-  end_of_none none = subst End none is
-
-  pub end_of_some : (f : HalfFound) (x : ℕ) → o ≡ Some f → x ≡ f.offset → IsEarliestEnd xs (looks_by words s h) h at (length h) (Some x)
-  end_of_some f x some same =
-      let P : ℕ → Type 0 = λ k. IsEarliestEnd xs (looks_by words s h) h at (length h) (Some k) in
-      let there : End (Some f) = subst End some is in subst P (sym same) (f.pattern, there)
+pub ends_refused : (P : MatchErrorKind → Type 0) (r : Result (Option HalfFound) MatchErrorKind) → ((e : MatchErrorKind) → r ≡ Err e → P e) →
+    IfErr (end_result r) P
+ends_refused P (Ok None) law = tt
+ends_refused P (Ok (Some f)) law = tt
+ends_refused P (Err e) law = law e refl

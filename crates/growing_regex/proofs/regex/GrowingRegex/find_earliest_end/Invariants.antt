@@ -1,4 +1,4 @@
-use Rattle.earliest_ends.proofs.searching.find_earliest_end.Given as goal
+use Rattle.growing_regex.proofs.regex.GrowingRegex.find_earliest_end.Given as goal
 
 abbrev pub ghosts-search_counted-L-Ledger : goal.ghosts-search_counted-L-Ledger
 ghosts-search_counted-L-Ledger a = record { name = a.first.name; parts = a.first.parts }

@@ -1,7 +1,7 @@
 use Rattle.std.proofs.Common.{Bool, subst}
 use Rattle.hir_regex.specs.Regexes.{IsRegexOf}
-use Rattle.earliest_ends.proofs.AnswerLemmas.{found_by_call, refused_by_call}
-use Rattle.earliest_ends.proofs.laws.calls_report_the_least_end.Goals as goal
+use Rattle.growing_regex.proofs.AnswerLemmas.{found_by_call, refused_by_call}
+use Rattle.growing_regex.proofs.laws.calls_report_the_least_end.Goals as goal
 
 pub returns-clause-found : goal.returns-clause-found
 returns-clause-found c = λ xs s p made first plain h bytes words set at v o answers.

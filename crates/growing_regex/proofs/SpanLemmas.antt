@@ -31,9 +31,9 @@ use Rattle.lazy_dfa.specs.SearchAnswers.{HasReach, half_of}
 use Rattle.lazy_dfa.proofs.ForCallers.{scan_done, scan_finds, scan_has_reach, scan_mode_told, scan_quits_near}
 use Rattle.regex_pair.specs.Pairs.{Pair}
 use Rattle.hir_regex.specs.Regexes.{IsRegexOf}
-use Rattle.earliest_ends.specs.Earliest.{NoneEndsBefore, HasNoSpan, IsEarliest, IsLeastEnd, IsSpanFrom, earliest_search}
-use Rattle.earliest_ends.proofs.LookLemmas.{goes_forward, all_count, reads_alike, trees_alike}
-use Rattle.earliest_ends.proofs.PassLemmas.{none_scan, quit_scan, some_is_not_none}
+use Rattle.growing_regex.specs.Earliest.{NoneEndsBefore, HasNoSpan, IsEarliest, IsLeastEnd, IsSpanFrom, earliest_search}
+use Rattle.growing_regex.proofs.LookLemmas.{goes_forward, all_count, reads_alike, trees_alike}
+use Rattle.growing_regex.proofs.PassLemmas.{none_scan, quit_scan, some_is_not_none}
 
 -- ---- lists of ends
 

@@ -16,7 +16,7 @@ ghost use Rattle.regex_pair.specs.Pairs.{Pair};
 ghost use Rattle.hir_regex.specs.declared.settings.Settings.{Settings};
 ghost use Rattle.hir_regex.specs.Built.{IsBuilt, FindsFirst};
 ghost use Rattle.hir_regex.specs.Regexes.{IsRegexOf};
-ghost use Rattle.earliest_ends.specs.Earliest.{NoneEndsBefore, IsEarliest, IsEarliestError, earliest_search, looks_by};
+ghost use Rattle.growing_regex.specs.Earliest.{NoneEndsBefore, IsEarliest, IsEarliestError, earliest_search, looks_by};
 
 use hir_regex::headline::built_regexes_are_of_the_trees;
 

@@ -1,5 +1,5 @@
-use Rattle.earliest_ends.proofs.SpanLemmas.{found_is_earliest, quit_is_before, never_unsupported}
-use Rattle.earliest_ends.proofs.laws.the_earliest_end_is_the_least.Goals as goal
+use Rattle.growing_regex.proofs.SpanLemmas.{found_is_earliest, quit_is_before, never_unsupported}
+use Rattle.growing_regex.proofs.laws.the_earliest_end_is_the_least.Goals as goal
 
 pub returns-clause-found : goal.returns-clause-found
 returns-clause-found c = λ xs t p regex h bytes words set s e inside o is. found_is_earliest xs t p regex h bytes words set s e inside o is

@@ -1,6 +1,6 @@
 -- The least end of the spans that trees match from an offset on, and what the result of a search forward for the earliest end says
 -- about them.
-use Rattle.std.specs.Prelude.{◌≡◌, ℕ, ◌≤◌, Bool, true, List, length, slice_get, Option, Some, None, ⊤}
+use Rattle.std.specs.Prelude.{◌≡◌, ℕ, ◌≤◌, Bool, true, List, length, slice_get, Option, Some, None, Result, Ok, Err, ⊤}
 use Rattle.look_core.specs.Looks.{holds}
 use Rattle.hir_core.specs.Means.{Looks, Means}
 use Rattle.hir_core.specs.Tree.{Tree}
@@ -47,6 +47,12 @@ IsEarliest xs looks h s e (Some f) = IsLeastEnd xs looks h s e f.pattern f.offse
 abbrev pub IsEarliestEnd : List Tree → Looks → List ℕ → ℕ → ℕ → Option ℕ → Type 0
 IsEarliestEnd xs looks h s e None = HasNoSpan xs looks h s e
 IsEarliestEnd xs looks h s e (Some x) = (p : ℕ) × IsLeastEnd xs looks h s e p x
+
+-- the end alone that a search found, or its error
+abbrev pub end_result : Result (Option HalfFound) MatchErrorKind → Result (Option ℕ) MatchErrorKind
+end_result (Ok None) = Ok None
+end_result (Ok (Some f)) = Ok (Some f.offset)
+end_result (Err e) = Err e
 
 -- a search of the haystack from the offset s to e that may start anywhere, and that may stop at the first end that it finds
 abbrev pub earliest_search : List ℕ → ℕ → ℕ → Search

@@ -1,4 +1,0 @@
-pub mod PassLemmas
-pub mod LookLemmas
-pub mod SpanLemmas
-pub mod AnswerLemmas
