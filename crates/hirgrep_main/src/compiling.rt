@@ -51,8 +51,8 @@ fn refuse_patterns(
     Ok(Outcome::failure())
 }
 
-/// Compiles the patterns, and searches files for them. The finder is dropped before the one way out, since proofs of what a function drops
-/// get larger faster than what it owns.
+/// Compiles the patterns, and searches files for them. The finder is freed before the one way out, and by its own crate, since proofs of what
+/// a function drops get larger faster than what it owns.
 pub fn search(
     rt: &HostRuntime,
     asked: &Asked,
@@ -67,7 +67,7 @@ pub fn search(
             let mut outcome = Outcome::new();
             let given = patterns.given.as_slice();
             let searched = search_files(rt, &mut finder, &asked, given, &mut outcome, files);
-            drop(finder);
+            finder.close();
             searched?;
             Ok(outcome)
         }
