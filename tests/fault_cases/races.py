@@ -114,7 +114,7 @@ class Races:
 
     def output_checks(self):
         """GNU grep asks for the files of descriptors, which needs no path: so it also works where there is no /dev."""
-        grows = Known("hirgrep_main/src/files/walking.rt: is_output asks for paths in /dev", 2, error("write error", "File too large"), LINE * 2)
+        grows = Known("grep_cli/src/files/walking.rt: is_output asks for paths in /dev", 2, error("write error", "File too large"), LINE * 2)
         for name, is_named, last in (("own", True, 3), ("(standard input)", False, 2)):
             said = error(name, "input file is also the output")
             yield Check(f"{name} is also the output", lambda it=is_named: self.own_output(9, it), 2, LINE, said)

@@ -4,11 +4,11 @@ use Rattle.std.specs.Borrow.{Bor}
 use Rattle.line_search.specs.declared.patterns.PatternOptions.{PatternOptions}
 use Rattle.grep_core.specs.declared.output_options.OutputOptions.{OutputOptions}
 use Rattle.hirgrep_main.specs.declared.options.asked.Asked.{Asked}
-use Rattle.hirgrep_main.specs.declared.options.asked.Devices.{Devices}
-use Rattle.hirgrep_main.specs.declared.options.asked.Directories.{Directories}
-use Rattle.hirgrep_main.specs.declared.options.asked.Names.{Names}
-use Rattle.hirgrep_main.specs.declared.inputs.binary.Binary.{Binary}
-use Rattle.hirgrep_main.specs.declared.inputs.reading.Reading.{Reading}
+use Rattle.grep_cli.specs.declared.options.flags.Devices.{Devices}
+use Rattle.grep_cli.specs.declared.options.flags.Directories.{Directories}
+use Rattle.grep_cli.specs.declared.options.flags.Names.{Names}
+use Rattle.grep_cli.specs.declared.inputs.binary.Binary.{Binary}
+use Rattle.grep_cli.specs.declared.inputs.reading.Reading.{Reading}
 
 module _ (path : Option (Bor (List ℕ))) where
   abbrev asked_as : PatternOptions → Bool → OutputOptions → Binary → Names → Directories → Bool → Devices → Bool → Bool → Bool → Bool → Reading → ℕ → Asked

@@ -5,7 +5,8 @@ use Rattle.json_events.specs.declared.stats.Stats.{Stats}
 use Rattle.line_search.specs.declared.fault.Fault.{Fault}
 use Rattle.grep_core.specs.declared.output_options.Print.{Print}
 use Rattle.hirgrep_main.specs.declared.results.outcome.Outcome.{Outcome}
-use Rattle.hirgrep_main.specs.Decisions.{counted, prints_nothing}
+use Rattle.grep_cli.specs.Counting.{counted}
+use Rattle.hirgrep_main.specs.Decisions.{prints_nothing}
 use Rattle.hirgrep_main.specs.Outcomes.{Continues, after_search, is_of_output, with_failure, with_totals}
 use Rattle.hirgrep_main.specs.Walking.{Tries}
 

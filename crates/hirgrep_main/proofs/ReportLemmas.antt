@@ -11,13 +11,15 @@ use Rattle.grep_core.specs.declared.output_options.OutputOptions.{OutputOptions}
 use Rattle.grep_core.specs.declared.output_options.Print.TheVariants.{Nothing}
 use Rattle.grep_core.specs.Reporting.{needs_spans, prints_lines}
 use Rattle.line_search.specs.Searchers.{SearchesFor, Sought}
-use Rattle.hirgrep_main.specs.declared.inputs.binary.Binary.{Binary}
-use Rattle.hirgrep_main.specs.declared.inputs.binary.Binary.TheVariants.{AsText, Notice, NoMatch}
-use Rattle.hirgrep_main.specs.Binaries.{first_len, has_zero, is_binary, notices, options_by, read_ahead, remaining_of, searched_bytes}
-use Rattle.hirgrep_main.specs.Readings.{is_by_lines, lists_in}
+use Rattle.grep_cli.specs.declared.inputs.binary.Binary.{Binary}
+use Rattle.grep_cli.specs.declared.inputs.binary.Binary.TheVariants.{AsText, Notice, NoMatch}
+use Rattle.grep_cli.specs.Inputs.{first_len, has_zero, is_binary, notices, read_ahead, remaining_of, searched_bytes}
+use Rattle.hirgrep_main.specs.Binaries.{options_by}
+use Rattle.grep_cli.specs.Inputs.{is_by_lines}
+use Rattle.hirgrep_main.specs.Readings.{lists_in}
 use Rattle.hirgrep_main.specs.Tasks.{IsInputReported, ReadPatterns, patterns_by}
-use Rattle.hirgrep_main.specs.declared.inputs.reading.Reading.{Reading}
-use Rattle.hirgrep_main.specs.declared.inputs.reading.Reading.TheVariants.{Lines, Records, Text, Events, TextEvents}
+use Rattle.grep_cli.specs.declared.inputs.reading.Reading.{Reading}
+use Rattle.grep_cli.specs.declared.inputs.reading.Reading.TheVariants.{Lines, Records, Text, Events, TextEvents}
 
 noticed : (c : Bool) (w : OutputOptions) → needs_spans (if c then record w { print = Nothing } else w) ≡ true → needs_spans w ≡ true
 noticed true w e = cc

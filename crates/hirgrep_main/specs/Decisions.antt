@@ -1,19 +1,15 @@
 -- What follows from the options, and from the outcome of the files.
-use Rattle.std.specs.Prelude.{ℕ, ◌+◌, ◌-◌, ◌^◌, min, Bool, true, false, not, ◌&&◌, ◌||◌, nat_eq, nat_lt, decimal, length, List, [], ◌∷◌, Option, Some, None, if◌then◌else◌}
+use Rattle.std.specs.Prelude.{ℕ, Bool, true, false, not, ◌&&◌, ◌||◌, nat_eq, nat_lt, decimal, length, List, [], ◌∷◌, Option, Some, None, if◌then◌else◌}
 use Rattle.line_search.specs.declared.patterns.PatternOptions.{PatternOptions}
 use Rattle.grep_core.specs.declared.output_options.Print.{Print}
 use Rattle.grep_core.specs.declared.output_options.Print.TheVariants.{Lines, Matches, Count, CountMatches, NameIfAny, NameIfNone, Nothing}
 use Rattle.grep_core.specs.declared.output_options.OutputOptions.{OutputOptions}
 use Rattle.grep_core.specs.Report.{first_of}
 use Rattle.grep_core.specs.Reporting.{prints_lines}
-use Rattle.std.specs.Char.{is_control}
-use Rattle.hirgrep_main.specs.declared.options.asked.Devices.{Devices}
-use Rattle.hirgrep_main.specs.declared.options.asked.Devices.TheVariants.{ReadAll, ReadNamed, SkipAll}
+use Rattle.grep_cli.specs.Counting.{counted}
 use Rattle.hirgrep_main.specs.declared.options.asked.Asked.{Asked}
-use Rattle.hirgrep_main.specs.declared.options.asked.Names.{Names}
-use Rattle.hirgrep_main.specs.Readings.{is_by_lines, prints_json}
-use Rattle.hirgrep_main.specs.declared.inputs.reading.Reading.{Reading}
-use Rattle.hirgrep_main.specs.declared.options.asked.Names.TheVariants.{Always, Never, IfSeveral}
+use Rattle.grep_cli.specs.Inputs.{is_by_lines, prints_json}
+use Rattle.grep_cli.specs.declared.inputs.reading.Reading.{Reading}
 
 -- ---- what is asked for
 
@@ -75,32 +71,6 @@ is_headed heading print = heading && prints_lines print
 abbrev pub is_plain : Reading → Bool → Print → Bool
 is_plain reading heading print = is_by_lines reading && not (is_headed heading print)
 
--- Whether names are printed before lines, depending on whether several files may be searched.
-abbrev pub shows_names : Names → Bool → Bool
-shows_names Always several = true
-shows_names Never several = false
-shows_names IfSeveral several = several
-
--- Devices that are found in folders are read.
-abbrev pub reads_found : Devices → Bool
-reads_found ReadAll = true
-reads_found ReadNamed = false
-reads_found SkipAll = false
-
--- Devices that arguments name are read.
-abbrev pub reads_named : Devices → Bool
-reads_named ReadAll = true
-reads_named ReadNamed = true
-reads_named SkipAll = false
-
--- The character that is shown for this one in messages and at a terminal: a question mark for a control character.
-abbrev pub shown_char : ℕ → ℕ
-shown_char c = if is_control c then 63 else c
-
--- Control characters of names are hidden if standard output is a terminal, unless zero bytes end names.
-abbrev pub hides_controls : Bool → Bool → Bool
-hides_controls is_terminal zero_names = is_terminal && not zero_names
-
 -- ---- the outcome
 
 -- The exit status. It is 0 if the search prints nothing and selected a line. Otherwise it is 2 after an error. Otherwise it is 0 if a line
@@ -111,10 +81,6 @@ status print selected failed =
     else if failed then 2
     else if selected then 0
     else 1
-
--- A number of 64 bits to which n was added. The greatest number stands for any number above it.
-abbrev pub counted : ℕ → ℕ → ℕ
-counted old n = min (old + n) (2 ^ 64 - 1)
 
 -- How many digits the greatest offset and, if asked for, line number of a file of this size may have.
 abbrev pub width_for : Bool → ℕ → ℕ

@@ -5,7 +5,8 @@ use Rattle.line_search.specs.declared.fault.Fault.TheVariants.{Read, Write, NoMe
 use Rattle.grep_core.specs.declared.separator_state.SeparatorState.{SeparatorState}
 use Rattle.grep_core.specs.declared.separator_state.SeparatorState.TheVariants.{NonePrinted, EarlierPrinted}
 use Rattle.grep_core.specs.declared.output_options.Print.{Print}
-use Rattle.hirgrep_main.specs.Decisions.{counted, prints_nothing}
+use Rattle.grep_cli.specs.Counting.{counted}
+use Rattle.hirgrep_main.specs.Decisions.{prints_nothing}
 use Rattle.json_events.specs.declared.stats.Stats.{Stats}
 use Rattle.text_report.specs.Events.{no_stats}
 use Rattle.hirgrep_main.specs.declared.results.outcome.Outcome.{Outcome}

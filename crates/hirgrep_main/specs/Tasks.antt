@@ -17,12 +17,13 @@ use Rattle.text_report.specs.Records.{report_records, selected_records}
 use Rattle.text_report.specs.ReplacedText.{report_text, selected_in_text}
 use Rattle.text_report.specs.Events.{json_report, json_stats}
 use Rattle.text_report.specs.TextEvents.{json_of_text, json_text_stats}
-use Rattle.hirgrep_main.specs.Binaries.{is_binary, options_by, searched_bytes}
+use Rattle.grep_cli.specs.Inputs.{is_binary, searched_bytes}
+use Rattle.hirgrep_main.specs.Binaries.{options_by}
 use Rattle.hirgrep_main.specs.Decisions.{is_headed}
 use Rattle.hirgrep_main.specs.Outcomes.{known_of}
 use Rattle.hirgrep_main.specs.Totals.{no_time}
-use Rattle.hirgrep_main.specs.declared.inputs.reading.Reading.{Reading}
-use Rattle.hirgrep_main.specs.declared.inputs.reading.Reading.TheVariants.{Lines, Records, Text, Events, TextEvents}
+use Rattle.grep_cli.specs.declared.inputs.reading.Reading.{Reading}
+use Rattle.grep_cli.specs.declared.inputs.reading.Reading.TheVariants.{Lines, Records, Text, Events, TextEvents}
 use Rattle.hirgrep_main.specs.declared.results.outcome.Outcome.{Outcome}
 use Rattle.hirgrep_main.specs.declared.task.Task.{Task}
 

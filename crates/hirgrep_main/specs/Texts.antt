@@ -1,11 +1,11 @@
 -- The names of files as they are printed, and the separators that options give.
-use Rattle.std.specs.Prelude.{◌≡◌, ℕ, ◌==◌, Bool, List, [], ◌∷◌, ◌++◌, chars, codes, encode_utf8, encode_utf8_all, if◌then◌else◌, map, Option, option_map, string_bytes}
+use Rattle.std.specs.Prelude.{◌≡◌, ℕ, ◌==◌, List, [], ◌∷◌, ◌++◌, encode_utf8, if◌then◌else◌, Option, option_map, string_bytes}
 use Rattle.std.specs.List.{slice_split}
 use Rattle.clap.specs.Words.{first_value}
 use Rattle.clap.specs.declared.parser.matches.Found.{Found}
 use Rattle.grep_options.specs.Escapes.{unescaped}
 use Rattle.grep_core.specs.declared.output_options.Print.{Print}
-use Rattle.hirgrep_main.specs.Decisions.{prints_nothing, shown_char}
+use Rattle.hirgrep_main.specs.Decisions.{prints_nothing}
 use Rattle.hirgrep_main.specs.GrepColors.{codes_of, colors_given}
 use Rattle.hirgrep_main.specs.declared.options.asked.Texts.{Texts}
 use Rattle.hirgrep_main.specs.declared.options.texts.GivenTexts.{GivenTexts}
@@ -19,14 +19,6 @@ joined_parts separator (part ∷ next ∷ parts) = part ++ (separator ++ joined_
 -- --path-separator: a name with this text instead of each slash, 47.
 abbrev pub separated_name : List ℕ → List ℕ → List ℕ
 separated_name separator name = joined_parts separator (slice_split (λ b. b == 47) name)
-
--- A name with a question mark for each control character.
-abbrev pub without_controls : List ℕ → List ℕ
-without_controls name = encode_utf8_all (map shown_char (chars name))
-
--- A name as it is printed, given whether control characters are hidden.
-abbrev pub printed_name : Bool → List ℕ → List ℕ
-printed_name hides name = if hides then without_controls name else name
 
 -- --files: what is printed for a file with this name, which this character ends.
 abbrev pub listed_name : Print → List ℕ → ℕ → List ℕ

@@ -1,7 +1,7 @@
 -- The sum of what was searched, for the summary of --json.
 use Rattle.json_events.specs.declared.elapsed.Elapsed.{Elapsed}
 use Rattle.json_events.specs.declared.stats.Stats.{Stats}
-use Rattle.hirgrep_main.specs.Decisions.{counted}
+use Rattle.grep_cli.specs.Counting.{counted}
 
 -- No time: the program uses no clock.
 abbrev pub no_time : Elapsed

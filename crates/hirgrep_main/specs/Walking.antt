@@ -1,52 +1,16 @@
--- What is found in folders, and which of it is searched.
-use Rattle.std.specs.Prelude.{◌≡◌, ◌⊎◌, ℕ, ◌==◌, Bool, true, false, ◌&&◌, ◌||◌, not, List, [], ◌∷◌, ◌++◌, Result, Ok, Err, if◌then◌else◌}
+-- What arguments name, and what is searched of it.
+use Rattle.std.specs.Prelude.{◌≡◌, ◌⊎◌, ℕ, Bool, true, false, ◌&&◌, not, List, Result, Ok, Err}
 use Rattle.std.specs.declared.io.Error.{Error}
-use Rattle.globs.specs.Rules.{ends_in_slash}
-use Rattle.hirgrep_main.specs.Decisions.{counted}
+use Rattle.grep_cli.specs.Counting.{counted}
 use Rattle.hirgrep_main.specs.Outcomes.{with_failure}
-use Rattle.hirgrep_main.specs.Selecting.{Selection, skips_named}
-use Rattle.hirgrep_main.specs.declared.options.asked.Directories.{Directories}
-use Rattle.hirgrep_main.specs.declared.options.asked.Directories.TheVariants.{Reject, Recurse, Skip}
+use Rattle.grep_cli.specs.Selecting.{Selection, skips_named}
+use Rattle.grep_cli.specs.declared.options.flags.Directories.{Directories}
+use Rattle.grep_cli.specs.declared.options.flags.Directories.TheVariants.{Reject, Recurse, Skip}
 use Rattle.hirgrep_main.specs.declared.results.outcome.Outcome.{Outcome}
 use Rattle.hirgrep_main.specs.declared.searching.Named.{Named}
 use Rattle.hirgrep_main.specs.declared.searching.Named.TheVariants.{Input, File as NamedFile, Folder as NamedFolder, Device as NamedDevice}
-use Rattle.hirgrep_main.specs.declared.files.walking.Kind.{Kind}
-use Rattle.hirgrep_main.specs.declared.files.walking.Kind.TheVariants.{File, Folder, Link, Device}
-
--- ---- the entries of a folder
-
--- the path of what has this name in a folder
-abbrev pub joined : List ℕ → List ℕ → List ℕ
-joined folder name = if ends_in_slash folder then folder ++ name else folder ++ 47 ∷ name
-
--- Neither nothing nor the folder itself nor the one above it.
-abbrev pub is_entry : List ℕ → Bool
-is_entry [] = false
-is_entry (a ∷ []) = not (a == 46)
-is_entry (a ∷ b ∷ []) = not (a == 46 && b == 46)
-is_entry (a ∷ b ∷ c ∷ more) = true
-
--- ---- what is searched
-
-abbrev pub is_folder_kind : Kind → Bool
-is_folder_kind File = false
-is_folder_kind Folder = true
-is_folder_kind Link = false
-is_folder_kind Device = false
-
-abbrev pub is_folder : Result Kind Error → Bool
-is_folder (Ok kind) = is_folder_kind kind
-is_folder (Err e) = false
-
-abbrev pub is_file_kind : Kind → Bool
-is_file_kind File = true
-is_file_kind Folder = false
-is_file_kind Link = false
-is_file_kind Device = false
-
-abbrev pub is_file : Result Kind Error → Bool
-is_file (Ok kind) = is_file_kind kind
-is_file (Err e) = false
+use Rattle.grep_cli.specs.declared.files.walking.Kind.{Kind}
+use Rattle.grep_cli.specs.declared.files.walking.Kind.TheVariants.{File, Folder, Link, Device}
 
 -- What an argument names, by what is at its path. A link to nothing is opened as a file, and reported.
 abbrev pub named_by : Kind → Named

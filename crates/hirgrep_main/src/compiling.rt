@@ -5,11 +5,11 @@ ghost use Rattle.hirgrep_main.specs.Asks.{with_case};
 
 use crate::options::asked::Asked;
 use crate::options::decisions::lists_matches;
-use crate::options::patterns::{Patterns, strs_of};
-use crate::options::smart_case::ignores_case;
+use crate::options::patterns::Patterns;
 use crate::results::messages::report_no_finder;
 use crate::results::outcome::Outcome;
 use crate::searching::{Files, search_files};
+use grep_cli::{ignores_case, strs_of};
 use line_search::{Finder, LinePatterns, PatternOptions, SearcherError, config_of};
 use std::alloc::AllocError;
 use std::rt::Runtime;
@@ -51,8 +51,8 @@ fn refuse_patterns(
     Ok(Outcome::failure())
 }
 
-/// Compiles the patterns, and searches files for them. The finder is dropped before the one way out, since proofs of what a function drops
-/// get larger faster than what it owns.
+/// Compiles the patterns, and searches files for them. The finder is freed before the one way out, and by its own crate, since proofs of what
+/// a function drops get larger faster than what it owns.
 pub fn search(
     rt: &HostRuntime,
     asked: &Asked,
@@ -67,7 +67,7 @@ pub fn search(
             let mut outcome = Outcome::new();
             let given = patterns.given.as_slice();
             let searched = search_files(rt, &mut finder, &asked, given, &mut outcome, files);
-            drop(finder);
+            finder.close();
             searched?;
             Ok(outcome)
         }

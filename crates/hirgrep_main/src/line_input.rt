@@ -2,7 +2,7 @@
 ghost use Rattle.std.specs.Prelude.{◌≤◌, length};
 ghost use Rattle.std.specs.Io.{ReadsAtMost};
 
-use crate::inputs::first_bytes::{FIRST, has_zero};
+use grep_cli::{FIRST, has_zero};
 use line_search::feed_at;
 use std::collections::VecDeque;
 use std::io;

@@ -6,70 +6,30 @@ ghost use Rattle.std.specs.Prelude.{◌≡◌, IfOk, Some, codes, true};
 ghost use Rattle.clap.specs.Words.{found_of};
 ghost use Rattle.grep_options.specs.Options.{is_set};
 
-mod class_names;
 mod compiling;
 mod files;
 mod inputs;
 mod line_input;
-mod longest_first;
 mod options;
 mod results;
 mod searching;
 mod task;
 
 use crate::compiling::search;
-use crate::files::selecting_files::selection_given;
-use crate::options::arguments::{matches_of, words_of};
-use crate::options::asked::{asked_of, color_of, groups_of, input_name, is_colorful, template_of};
-use crate::options::file_types::{known_types, list_of_types};
-use crate::options::patterns::{Patterns, names_of_files};
+use crate::options::asked::{asked_of, groups_of};
+use crate::options::patterns::Patterns;
 use crate::options::texts::GivenTexts;
-use crate::options::type_changes::types_changed;
-use crate::results::messages::{report_error, report_output};
-use crate::results::stop::Stop;
 use crate::searching::Files;
 use clap::ArgMatches;
+use grep_cli::{
+    Stop, color_of, input_name, is_colorful, matches_of, names_of_files, print_types, report_error,
+    selection_given, template_of, words_of,
+};
 use grep_options::is_set;
 use std::alloc::AllocError;
 use std::env;
-use std::io::Write;
 use std::process::ExitCode;
 use std::rt::Runtime;
-
-/// The list of types of files, as options change them. Returns none after reporting a definition that can't be read.
-fn types_listed(rt: &HostRuntime, matches: &ArgMatches<'_>) -> Result<Option<String>, AllocError> {
-    match types_changed(rt, known_types(), matches)? {
-        Some(types) => {
-            let text = list_of_types(rt.alloc(), &types);
-            drop(types);
-            Ok(Some(text?))
-        }
-        None => Ok(None),
-    }
-}
-
-/// Prints a text, and returns the exit status.
-fn print_text(rt: &HostRuntime, text: &str) -> u8 {
-    match rt.stdout().write_all(text.as_bytes()) {
-        Ok(()) => 0,
-        Err(e) => {
-            report_output(rt, &e);
-            2
-        }
-    }
-}
-
-/// Prints the types of files, and returns the exit status.
-fn print_types(rt: &HostRuntime, matches: &ArgMatches<'_>) -> Result<u8, AllocError> {
-    match types_listed(rt, matches)? {
-        Some(text) => {
-            let status = print_text(rt, text.as_str());
-            drop(text);
-            Ok(status)
-        }
-        None => Ok(2),
-    }
-}
 
 /// Does what options ask for instead of a search, and returns the exit status: prints the types of files, or reports that basic regular
 /// expressions aren't supported. Returns none if files are to be searched.
@@ -121,7 +81,7 @@ fn search_asked(rt: &HostRuntime, matches: &ArgMatches<'_>) -> Result<u8, Stop>
         template_of(matches),
     );
     enter(rt, matches.get_strs("directory").unwrap_or(&[]))?;
-    let selection = selection_given(rt, &asked, matches)?;
+    let selection = selection_given(rt, asked.reports_input, matches)?;
     let patterns = Patterns::given(rt, &asked, matches, selection.lists)?;
     let files = Files {
         names: names_of_files(matches, selection.lists),

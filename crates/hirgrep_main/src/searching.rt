@@ -1,29 +1,31 @@
 //! Searches files, one after the other.
-ghost use Rattle.std.specs.Prelude.{◌≡◌, [], true, false, None, Result, Ok, IfErr, IfOk, OnOk, codes, map, string_bytes};
-ghost use Rattle.hirgrep_main.specs.Decisions.{reads_found, reads_named, selects_none};
+ghost use Rattle.std.specs.Prelude.{◌≡◌, [], true, false, Result, Ok, IfErr, IfOk, OnOk, codes, map, string_bytes};
+ghost use Rattle.grep_cli.specs.Flags.{reads_found, reads_named};
+ghost use Rattle.hirgrep_main.specs.Decisions.{selects_none};
 ghost use Rattle.hirgrep_main.specs.Readings.{prints_summary};
-ghost use Rattle.hirgrep_main.specs.declared.options.asked.Directories.TheVariants.{Reject, Skip};
+ghost use Rattle.grep_cli.specs.declared.options.flags.Directories.TheVariants.{Reject, Skip};
 ghost use Rattle.hirgrep_main.specs.declared.searching.Named.TheVariants.{Input, File, Folder, Device};
-ghost use Rattle.hirgrep_main.specs.declared.files.walking.Kind.TheVariants.{Link, Device as FoundDevice, File as FoundFile, Folder as FoundFolder};
-ghost use Rattle.hirgrep_main.specs.Selecting.{depth_in, enters, selection, skips_found};
-ghost use Rattle.hirgrep_main.specs.Walking.{Tries, is_file, is_file_kind, is_folder, is_folder_kind, is_left_out, leaves_out, may_be_several, named_by};
+ghost use Rattle.grep_cli.specs.declared.files.walking.Kind.TheVariants.{Link, Device as FoundDevice, File as FoundFile, Folder as FoundFolder};
+ghost use Rattle.grep_cli.specs.Selecting.{depth_in, enters, selection, skips_found};
+ghost use Rattle.grep_cli.specs.Entries.{is_folder};
+ghost use Rattle.hirgrep_main.specs.Walking.{Tries, is_left_out, leaves_out, may_be_several, named_by};
 ghost use Rattle.hirgrep_main.specs.Outcomes.{Continues, with_failure};
 
-use crate::files::ignoring::IgnoreFiles;
 use crate::files::opening::{search_file, search_input};
-use crate::files::selecting_files::Selection;
-use crate::files::walking::{Kind, kind_of, output_file, push_folder, push_found};
-use crate::inputs::reading::prints_json;
-use crate::options::asked::{Asked, Directories};
-use crate::options::decisions::{is_named, prints_summary, reads_found, reads_named, selects_none};
+use crate::options::asked::Asked;
+use crate::options::decisions::{prints_summary, selects_none};
 use crate::results::outcome::Outcome;
-use crate::results::shown::hides_controls;
-use crate::task::{Task, shown_name};
+use crate::task::Task;
+use grep_cli::{
+    Directories, IgnoreFiles, Kind, Selection, hides_controls, is_folder, is_named, kind_of,
+    output_file, prints_json, push_folder, push_found, reads_found, reads_named, shown_name,
+    size_at,
+};
 use line_search::Finder;
 use std::alloc::{AllocError, Global};
+use std::io;
 use std::io::IsTerminal;
 use std::rt::Runtime;
-use std::{fs, io};
 
 /// The files that a command line names.
 #[derive(Clone, Copy)]
@@ -77,67 +79,22 @@ fn search_kind(
 {
     match kind {
         Ok(Kind::File) => search_file(rt, finder, task, outcome, path),
-        Ok(Kind::Folder) => return push_found(rt, task, outcome, left, root, path),
+        Ok(Kind::Folder) => return push_found(
+            rt,
+            task.folders(),
+            &mut outcome.failed,
+            left,
+            root,
+            path,
+        ),
         Ok(Kind::Link) => {}
         Ok(Kind::Device) => {
             let is_read = reads_found(task.asked.devices);
             search_device(rt, finder, task, outcome, path, is_read);
         }
-        Err(e) => outcome.fail(rt, task.asked, shown_name(task, path), e),
+        Err(e) => outcome.fail(rt, task.asked, shown_name(task.bare, path), e),
     }
     Ok(())
-}
-
-fn is_folder_kind(kind: Kind) -> bool
-    ensures { result ≡ is_folder_kind kind }
-{
-    match kind {
-        Kind::Folder => true,
-        Kind::File | Kind::Link | Kind::Device => false,
-    }
-}
-
-/// Whether this is a folder.
-fn is_folder(kind: &io::Result<Kind>) -> bool
-    ensures { result ≡ is_folder kind.now }
-{
-    match kind {
-        Ok(kind) => is_folder_kind(*kind),
-        Err(_) => false,
-    }
-}
-
-fn is_file_kind(kind: Kind) -> bool
-    ensures { result ≡ is_file_kind kind }
-{
-    match kind {
-        Kind::File => true,
-        Kind::Folder | Kind::Link | Kind::Device => false,
-    }
-}
-
-/// Whether this is a file.
-fn is_file(kind: &io::Result<Kind>) -> bool
-    ensures { result ≡ is_file kind.now }
-{
-    match kind {
-        Ok(kind) => is_file_kind(*kind),
-        Err(_) => false,
-    }
-}
-
-/// The size of the file at a path, if files have a greatest size. Sizes of other things don't count.
-fn size_at(rt: &HostRuntime, task: Task<'_>, kind: &io::Result<Kind>, path: &str) -> Option<u64>
-    ensures any { task.entry.selection.now.max_size ≡ None → result ≡ None }
-    ensures other { is_file kind.now ≡ false → result ≡ None }
-{
-    if task.selection.max_size.is_none() || !is_file(kind) {
-        return None;
-    }
-    match fs::metadata(rt, path) {
-        Ok(metadata) => Some(metadata.len()),
-        Err(_) => None,
-    }
 }
 
 /// Searches something of this kind and size that was found in a folder, unless the options leave it out. The ignore files of folders said
@@ -186,8 +143,16 @@ fn search_found(
     ensures { Continues outcome.old outcome.new }
 {
     let kind = kind_of(rt, path, task.asked.follows);
-    let size = size_at(rt, task, &kind, path);
-    let said = ignoring.said(rt, task, outcome, root, path, is_folder(&kind))?;
+    let size = size_at(rt, task.selection, &kind, path);
+    let is_folder = is_folder(&kind);
+    let said = ignoring.said(
+        rt,
+        task.folders(),
+        &mut outcome.failed,
+        root,
+        path,
+        is_folder,
+    )?;
     search_unless_skipped(
         rt, finder, task, outcome, left, root, path, said, size, kind,
     )
@@ -207,8 +172,15 @@ fn search_folder(
         return Ok(());
     }
     let mut left = Vec::new(rt.alloc());
-    let mut ignoring = IgnoreFiles::new(rt, task, outcome, root)?;
-    push_folder(rt, task, outcome, &mut left, root, true)?;
+    let mut ignoring = IgnoreFiles::new(rt, task.folders(), &mut outcome.failed, root)?;
+    push_folder(
+        rt,
+        task.folders(),
+        &mut outcome.failed,
+        &mut left,
+        root,
+        true,
+    )?;
     for _index in 0..u64::MAX {
         let Some(path) = left.pop() else {
             break;
@@ -457,7 +429,7 @@ pub fn search_files(
     for path in paths {
         let named = named_at(rt, path);
         let several = paths.len() > 1 || may_be_several(searched.directories, &named);
-        let with_name = is_named(&searched, several);
+        let with_name = is_named(searched.names, several);
         let task = Task { with_name, ..task };
         search_as(rt, finder, task, outcome, path, named)?;
         if outcome.ended {

@@ -1,8 +1,8 @@
 //! What files are searched for.
+ghost use Rattle.std.specs.Prelude.{◌≡◌};
 
-use crate::files::selecting_files::Selection;
-use crate::files::walking::FileId;
 use crate::options::asked::Asked;
+use grep_cli::{FileId, FolderSearch, Selection};
 
 /// What files are searched for, and how the results are printed.
 #[derive(Clone, Copy)]
@@ -24,10 +24,16 @@ pub struct Task<'a> {
     pub hides_controls: bool,
 }
 
-/// The name that is printed for the file at a path.
-pub fn shown_name<'a>(task: Task<'_>, path: &'a str) -> &'a str {
-    if !task.bare {
-        return path;
+impl<'a> Task<'a> {
+    /// How folders are searched.
+    pub fn folders(self) -> FolderSearch<'a>
+        ensures { result.selection ≡ self.entry.selection }
+    {
+        FolderSearch {
+            selection: self.selection,
+            follows: self.asked.follows,
+            silent: self.asked.silent,
+            bare: self.bare,
+        }
     }
-    path.strip_prefix("./").unwrap_or(path)
 }

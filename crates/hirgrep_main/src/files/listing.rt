@@ -1,15 +1,15 @@
 //! The names of the files that would be searched.
 ghost use Rattle.std.specs.Prelude.{◌≡◌, IfOk, OnOk};
 ghost use Rattle.std.specs.Io.KnownBytes.{Appends};
-ghost use Rattle.hirgrep_main.specs.Decisions.{counted};
+ghost use Rattle.grep_cli.specs.Counting.{counted};
 ghost use Rattle.hirgrep_main.specs.Outcomes.{Continues};
-ghost use Rattle.hirgrep_main.specs.Texts.{listed_name, printed_name};
+ghost use Rattle.grep_cli.specs.PrintedNames.{printed_name};
+ghost use Rattle.hirgrep_main.specs.Texts.{listed_name};
 
 use crate::results::messages::Causes;
 use crate::results::outcome::Outcome;
-use crate::results::output::Output;
-use crate::results::shown::without_controls;
 use crate::task::Task;
+use grep_cli::{Output, without_controls};
 use grep_core::Print;
 use line_search::Fault;
 use std::alloc::Global;

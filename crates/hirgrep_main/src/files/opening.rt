@@ -4,30 +4,28 @@ ghost use Rattle.line_search.specs.Searchers.{SearchesFor};
 ghost use Rattle.hirgrep_main.specs.Readings.{lists_matches};
 ghost use Rattle.line_search.specs.declared.fault.Fault.{Fault as TheFault};
 ghost use Rattle.json_events.specs.declared.stats.Stats.{Stats as TheStats};
-ghost use Rattle.hirgrep_main.specs.Decisions.{counted, may_run_on};
-ghost use Rattle.hirgrep_main.specs.Selecting.{selection};
+ghost use Rattle.grep_cli.specs.Counting.{counted};
+ghost use Rattle.hirgrep_main.specs.Decisions.{may_run_on};
+ghost use Rattle.grep_cli.specs.Selecting.{selection};
 ghost use Rattle.hirgrep_main.specs.Walking.{Tries};
 ghost use Rattle.hirgrep_main.specs.Outcomes.{Continues, after_search, with_failure, with_totals};
 ghost use Rattle.hirgrep_main.specs.Tasks.{count_of, patterns_by};
-ghost use Rattle.hirgrep_main.specs.Texts.{printed_name};
+ghost use Rattle.grep_cli.specs.PrintedNames.{printed_name};
 
 use crate::files::listing::list_file;
-use crate::files::walking::{Kind, is_output, kind_of};
-use crate::inputs::binary::{Binary, prints_lines};
+use crate::inputs::binary::prints_lines;
 use crate::inputs::columns::width_at;
-use crate::inputs::counting::Counting;
-use crate::inputs::input::input;
 use crate::inputs::input_report::report_one;
-use crate::inputs::reading::is_by_lines;
 use crate::line_input::{LineInput, begins_with_zero};
 use crate::options::asked::Asked;
 use crate::options::decisions::may_run_on;
 use crate::options::texts::separated_name;
 use crate::results::messages::Causes;
 use crate::results::outcome::Outcome;
-use crate::results::output::Output;
-use crate::results::shown::PrintedName;
-use crate::task::{Task, shown_name};
+use crate::task::Task;
+use grep_cli::{
+    Binary, Counting, Kind, Output, PrintedName, input, is_by_lines, is_output, kind_of, shown_name,
+};
 use grep_core::{Headed, OutputOptions};
 use line_search::Finder;
 use std::alloc::{AllocError, Global};
@@ -156,7 +154,7 @@ pub fn search_input(
         return;
     }
     let name = task.input_name;
-    let stdin = input(rt, task.asked);
+    let stdin = input(rt, task.asked.reports_input);
     if is_refused_output(rt, task, outcome, name, "/dev/stdin") {
         return;
     }
@@ -183,7 +181,7 @@ fn file_name<'a>(
     task: Task<'_>,
     path: &'a str,
 ) -> Result<PrintedName<'a>, AllocError> {
-    let name = shown_name(task, path);
+    let name = shown_name(task.bare, path);
     let Some(separator) = task.asked.path_separator else {
         return Ok(PrintedName::Given(name));
     };

@@ -2,16 +2,14 @@
 ghost use Rattle.std.specs.Prelude.{◌≡◌, IfSome};
 ghost use Rattle.hirgrep_main.specs.Readings.{lists_matches};
 ghost use Rattle.line_search.specs.Searchers.{SearchesFor};
-ghost use Rattle.hirgrep_main.specs.Texts.{printed_name};
+ghost use Rattle.grep_cli.specs.PrintedNames.{printed_name};
 ghost use Rattle.hirgrep_main.specs.Tasks.{IsInputReported, count_of, patterns_by, report_in, whole_report_in};
 
 use crate::inputs::binary::is_noticed;
-use crate::inputs::first_bytes::{Searched, has_zero, read_ahead};
 use crate::inputs::reporting::{is_plain, options_for, report_otherwise};
-use crate::results::messages::report_reason;
 use crate::results::outcome::Outcome;
-use crate::results::shown::printed_name;
 use crate::task::Task;
+use grep_cli::{Searched, has_zero, printed_name, read_ahead, report_reason};
 use grep_core::{Headed, report_input};
 use json_events::Stats;
 use line_search::{Fault, Finder};
@@ -60,7 +58,7 @@ pub fn report_one<R: Read, W: Write>(
     };
     let ahead = match read_ahead(alloc, task.asked.binary, reader) {
         Ok(ahead) => ahead,
-        Err(e) => return Err(e),
+        Err(e) => return Err(Fault::Read(e.kind())),
     };
     let first = ahead.as_slice();
     let zero = has_zero(first);

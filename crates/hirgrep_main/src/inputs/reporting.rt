@@ -6,11 +6,11 @@ ghost use Rattle.hirgrep_main.specs.Readings.{lists_in};
 ghost use Rattle.hirgrep_main.specs.Tasks.{IsInputReported, body_count, options_for, options_in, patterns_by, report_by, whole_report_by};
 
 use crate::inputs::binary::{options_by, prints_lines};
-use crate::inputs::reading::is_by_lines;
 use crate::inputs::whole_report::report_whole;
 use crate::options::asked::Asked;
 use crate::results::outcome::Outcome;
 use crate::task::Task;
+use grep_cli::is_by_lines;
 use grep_core::{Headed, OutputOptions, Print, report_headed};
 use json_events::Stats;
 use line_search::{Fault, Finder};

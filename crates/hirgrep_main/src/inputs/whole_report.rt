@@ -10,11 +10,12 @@ ghost use Rattle.hirgrep_main.specs.Readings.{lists_in};
 ghost use Rattle.hirgrep_main.specs.Tasks.{IsInputReported, body, body_count, patterns_by, report_by, whole_report_by};
 ghost use Rattle.hirgrep_main.specs.Totals.{no_time, summed};
 
-use crate::inputs::reading::{Reading, read_whole};
+use crate::inputs::reading::read_whole;
 use crate::inputs::reporting::is_headed;
 use crate::results::outcome::Outcome;
 use crate::results::totals::{no_time, summed};
 use crate::task::Task;
+use grep_cli::Reading;
 use grep_core::{Headed, OutputOptions, SeparatorState, heading_of, report_input, write_out};
 use json_events::Stats;
 use line_search::{Fault, Finder};

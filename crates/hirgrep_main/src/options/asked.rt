@@ -1,21 +1,23 @@
 //! What the options ask for.
-ghost use Rattle.std.specs.Prelude.{◌≡◌, ◌||◌, codes, if◌then◌else◌, option_map, unwrap_or};
-ghost use Rattle.clap.specs.Words.{first_value, found_of};
+ghost use Rattle.std.specs.Prelude.{◌≡◌, ◌||◌, codes, if◌then◌else◌, unwrap_or};
+ghost use Rattle.clap.specs.Words.{found_of};
 ghost use Rattle.grep_core.specs.Printing.{group_text};
 ghost use Rattle.grep_options.specs.Options.{is_set};
-ghost use Rattle.hirgrep_main.specs.Asks.{all_lines, asked_names, asked_of, color_of, colors_of, context_by, context_of, devices_by, directories_by, how_of};
-ghost use Rattle.hirgrep_main.specs.Asks.{binary_given, group_given, has_columns, has_heading, has_numbers, most_bytes_by, print_of, template_given, terminator_given, what_of};
-ghost use Rattle.hirgrep_main.specs.Readings.{dot_matches_feeds, most_given, reading_given};
+ghost use Rattle.grep_cli.specs.Flags.{color_of};
+ghost use Rattle.hirgrep_main.specs.Asks.{all_lines, asked_of, colors_of, context_by, context_of, how_of};
+ghost use Rattle.grep_cli.specs.Flags.{has_columns, has_heading, has_numbers, most_bytes_by, terminator_given};
+ghost use Rattle.hirgrep_main.specs.Asks.{binary_given, group_given, print_of, what_of};
+ghost use Rattle.grep_cli.specs.Inputs.{dot_matches_feeds, most_given, reading_given};
 
-use crate::inputs::binary::{Binary, binary_of};
-use crate::inputs::reading::{Reading, dot_matches_feeds, most_given, reading_given};
 use clap::ArgMatches;
+use grep_cli::{
+    Binary, Devices, Directories, Names, Reading, binary_of, color_of, devices_of, directories_of,
+    dot_matches_feeds, has_columns, has_heading, has_numbers, most_bytes_by, most_given, names_of,
+    reading_given, terminator_given,
+};
 use grep_core::{Colors, Context, GroupSeparator, OutputOptions, Print};
 use grep_options::{is_set, limit, number};
 use line_search::PatternOptions;
-use std::env;
-use std::io::IsTerminal;
-use std::rt::Runtime;
 
 /// More lines than an input has.
 const ALL: u64 = 0xFFFF_FFFF_FFFF_FFFF;
@@ -31,34 +33,6 @@ pub struct Texts<'a> {
     pub context_separator: Option<&'a [u8]>,
     /// The text that is printed instead of each slash in names, if it is given.
     pub path_separator: Option<&'a str>,
-}
-
-/// Whether file names are printed before lines.
-#[derive(Clone, Copy)]
-pub enum Names {
-    Always,
-    Never,
-    /// If there are several files.
-    IfSeveral,
-}
-
-/// What is done with a folder that an argument names.
-#[derive(Clone, Copy, PartialEq, Eq)]
-pub enum Directories {
-    /// It is an error.
-    Reject,
-    /// Its files are searched, and those of the folders in it.
-    Recurse,
-    Skip,
-}
-
-/// Which devices, pipes and sockets are read.
-#[derive(Clone, Copy)]
-pub enum Devices {
-    ReadAll,
-    /// Those that arguments name are read.
-    ReadNamed,
-    SkipAll,
 }
 
 /// What is asked for.
@@ -180,93 +154,6 @@ fn context_of(matches: &ArgMatches<'_>) -> Option<Context>
     context_by(before, after)
 }
 
-/// Whether standard output is a terminal that supports colours.
-pub fn is_colorful(rt: &HostRuntime) -> bool {
-    match env::var(rt, "TERM") {
-        Ok(term) => rt.stdout().is_terminal() && term.as_str() != "dumb",
-        Err(_) => false,
-    }
-}
-
-/// Whether matches and names are marked, by `--color` or, without it, by `-p` if `--vimgrep` isn't given. `is_colorful` says whether
-/// standard output is a terminal that supports colours.
-pub fn color_of(matches: &ArgMatches<'_>, is_colorful: bool) -> bool
-    ensures { result ≡ color_of (found_of matches.now) is_colorful }
-{
-    match matches.get_str("color") {
-        Some("always" | "yes" | "force") => true,
-        Some("auto" | "tty" | "if-tty") => is_colorful,
-        Some(_) => false,
-        None => is_set(matches, "pretty") && !is_set(matches, "vimgrep"),
-    }
-}
-
-/// Whether the name of a file is printed once above its lines. Of `--heading` and `--no-heading`, the later one has turned off the other.
-/// With `--json` there are no lines.
-fn has_heading(matches: &ArgMatches<'_>) -> bool
-    ensures { result ≡ has_heading (found_of matches.now) }
-{
-    if is_set(matches, "no-heading") || is_set(matches, "vimgrep") || is_set(matches, "json") {
-        return false;
-    }
-    is_set(matches, "heading") || is_set(matches, "pretty")
-}
-
-/// Whether file names are printed before lines. Of `-h` and `-H`, the later one has turned off the other. `--vimgrep` asks for names too.
-fn names_of(matches: &ArgMatches<'_>) -> Names
-    ensures { result ≡ asked_names (found_of matches.now) }
-{
-    if is_set(matches, "no-filename") {
-        return Names::Never;
-    }
-    if is_set(matches, "with-filename") || is_set(matches, "vimgrep") {
-        return Names::Always;
-    }
-    Names::IfSeveral
-}
-
-/// What is done with a folder. Of `-r`, `-R` and `-d` the last one has turned off the others.
-fn directories_of(matches: &ArgMatches<'_>) -> Directories
-    ensures { result ≡ directories_by (first_value (found_of matches.now) (codes "directories"))
-        (is_set (found_of matches.now) (codes "recursive") || is_set (found_of matches.now) (codes "dereference-recursive")) }
-{
-    let recursive = is_set(matches, "recursive") || is_set(matches, "dereference-recursive");
-    match matches.get_str("directories") {
-        Some("skip") => Directories::Skip,
-        Some("recurse") => Directories::Recurse,
-        _ => if recursive {
-            Directories::Recurse
-        } else {
-            Directories::Reject
-        },
-    }
-}
-
-/// Which devices are read. With `-R` all are, unless `-D` skips them.
-fn devices_of(matches: &ArgMatches<'_>, follows: bool) -> Devices
-    ensures { result ≡ devices_by (first_value (found_of matches.now) (codes "devices")) follows }
-{
-    match matches.get_str("devices") {
-        Some("skip") => Devices::SkipAll,
-        Some("read") => Devices::ReadAll,
-        _ => if follows {
-            Devices::ReadAll
-        } else {
-            Devices::ReadNamed
-        },
-    }
-}
-
-/// The name of standard input, where names are printed.
-pub fn input_name<'a>(matches: &ArgMatches<'a>) -> &'a str
-    ensures { result.now ≡ unwrap_or (first_value (found_of matches.now) (codes "label")) (codes "(standard input)") }
-{
-    match matches.get_str("label") {
-        Some(label) => label,
-        None => "(standard input)",
-    }
-}
-
 /// What separates groups of lines. Of the two options, the later one has turned off the other. With `--passthru` there are no groups.
 pub fn groups_of<'a>(matches: &ArgMatches<'a>) -> GroupSeparator<'a>
     ensures { group_text result ≡ group_given (found_of matches.now) }
@@ -278,43 +165,6 @@ pub fn groups_of<'a>(matches: &ArgMatches<'a>) -> GroupSeparator<'a>
         Some(text) => GroupSeparator::Given(text.as_bytes()),
         None => GroupSeparator::Hyphens,
     }
-}
-
-/// The template by which matches are replaced, if it is given. With `--json` nothing is replaced.
-pub fn template_of<'a>(matches: &ArgMatches<'a>) -> Option<&'a [u8]>
-    ensures { option_map (λ t. t.now) result ≡ template_given (found_of matches.now) }
-{
-    if is_set(matches, "json") {
-        return None;
-    }
-    match matches.get_str("replace") {
-        Some(text) => Some(text.as_bytes()),
-        None => None,
-    }
-}
-
-/// Whether the numbers of lines are printed. Of `-n` and `-N`, the later one has turned off the other. `--json` asks for them too.
-fn has_numbers(matches: &ArgMatches<'_>) -> bool
-    ensures { result ≡ has_numbers (found_of matches.now) }
-{
-    if is_set(matches, "no-line-number") {
-        return false;
-    }
-    is_set(matches, "line-number")
-        || is_set(matches, "pretty")
-        || is_set(matches, "column")
-        || is_set(matches, "vimgrep")
-        || is_set(matches, "json")
-}
-
-/// Whether columns are printed. Of `--column` and `--no-column`, the later one has turned off the other.
-fn has_columns(matches: &ArgMatches<'_>) -> bool
-    ensures { result ≡ has_columns (found_of matches.now) }
-{
-    if is_set(matches, "no-column") {
-        return false;
-    }
-    is_set(matches, "column") || is_set(matches, "vimgrep")
 }
 
 /// The colours, if parts are marked.
@@ -329,27 +179,6 @@ fn colors_of<'a>(
         Some(colors)
     } else {
         None
-    }
-}
-
-/// The greatest number of bytes of a line that is printed, if this number is given. 0 is no limit.
-fn most_bytes_by(given: Option<u64>) -> Option<u64>
-    ensures { result ≡ most_bytes_by given }
-{
-    match given {
-        Some(most) if most > 0 => Some(most),
-        _ => None,
-    }
-}
-
-/// The byte that ends lines.
-fn terminator_given(matches: &ArgMatches<'_>) -> u8
-    ensures { result ≡ terminator_given (found_of matches.now) }
-{
-    if is_set(matches, "null-data") {
-        0
-    } else {
-        b'\n'
     }
 }
 

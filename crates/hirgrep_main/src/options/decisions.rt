@@ -1,12 +1,12 @@
 //! What is decided from the options alone.
 ghost use Rattle.std.specs.Prelude.{◌≡◌, true, false, None, map, string_bytes};
-ghost use Rattle.hirgrep_main.specs.Decisions.{is_most, may_run_on, prints_all, prints_names_if_none, reads_found, reads_named, selects_none};
-ghost use Rattle.hirgrep_main.specs.Decisions.{shows_names, wants_none};
+ghost use Rattle.hirgrep_main.specs.Decisions.{is_most, may_run_on, prints_all, prints_names_if_none, selects_none};
+ghost use Rattle.hirgrep_main.specs.Decisions.{wants_none};
 ghost use Rattle.hirgrep_main.specs.Readings.{lists_matches, prints_summary};
 
 use crate::inputs::binary::prints_lines;
-use crate::inputs::reading::{lists_all, prints_json};
-use crate::options::asked::{Asked, Devices, Names};
+use crate::options::asked::Asked;
+use grep_cli::{lists_all, prints_json};
 use grep_core::{OutputOptions, Print, needs_spans};
 
 fn prints_names_if_none(print: Print) -> bool
@@ -44,37 +44,6 @@ pub fn may_run_on(asked: &Asked) -> bool
     ensures { result ≡ may_run_on asked.now.what }
 {
     prints_lines(asked.what.print) && !is_most(1, asked.what.most) || prints_all(&asked.what)
-}
-
-/// Whether devices that are found in folders are read.
-pub fn reads_found(devices: Devices) -> bool
-    ensures { result ≡ reads_found devices }
-{
-    match devices {
-        Devices::ReadAll => true,
-        Devices::ReadNamed | Devices::SkipAll => false,
-    }
-}
-
-/// Whether devices that arguments name are read.
-pub fn reads_named(devices: Devices) -> bool
-    ensures { result ≡ reads_named devices }
-{
-    match devices {
-        Devices::ReadAll | Devices::ReadNamed => true,
-        Devices::SkipAll => false,
-    }
-}
-
-/// Whether names are printed before lines, depending on whether several files may be searched.
-pub fn is_named(asked: &Asked, may_be_several: bool) -> bool
-    ensures { result ≡ shows_names asked.now.names may_be_several }
-{
-    match asked.names {
-        Names::Always => true,
-        Names::Never => false,
-        Names::IfSeveral => may_be_several,
-    }
 }
 
 /// Whether these patterns select no line, whatever it is: there is no pattern, or with `-v` the only one is empty. With `-w` and `-x` an

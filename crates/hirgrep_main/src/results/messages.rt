@@ -1,10 +1,9 @@
 //! Messages on standard error for patterns that are rejected, and for inputs that aren't searched to their end.
 
-use crate::class_names::{Misnamed, first_misnamed};
 use crate::options::asked::Asked;
 use crate::options::loops::loop_offset;
-use crate::options::patterns::{PatternFile, Patterns};
-use crate::results::shown::Shown;
+use crate::options::patterns::Patterns;
+use grep_cli::{Misnamed, PatternFile, Shown, first_misnamed, report_error, report_reason};
 use hirhead::pointed;
 use lazy_dfa::BuildError;
 use line_search::{Fault, SearcherError};
@@ -14,46 +13,6 @@ use std::alloc::{AllocError, Global};
 use std::io;
 use std::io::ErrorKind;
 use std::rt::Runtime;
-
-/// A text without the number that follows the system's words in what the toolchain prints for an error.
-fn without_number(text: &str) -> &str {
-    match text.rsplit_once(" (os error ") {
-        Some((words, _)) => words,
-        None => text,
-    }
-}
-
-/// Reports an error with what has this name, in the system's words.
-pub fn report_error(rt: &HostRuntime, name: &str, error: &io::Error) {
-    let name = Shown(name);
-    let _ = match error.to_string(rt.alloc()) {
-        Ok(text) => {
-            let words = without_number(text.as_str());
-            eprintln!(rt; "hirgrep: {name}: {words}")
-        }
-        Err(_) => eprintln!(rt; "hirgrep: {name}: {error}"),
-    };
-}
-
-/// Reports why something isn't searched.
-pub fn report_reason(rt: &HostRuntime, name: &str, reason: &str) {
-    let name = Shown(name);
-    let _ = eprintln!(rt; "hirgrep: {name}: {reason}");
-}
-
-/// Reports that a folder is one of those in which it was found, so that it isn't searched again.
-pub fn warn_of_loop(rt: &HostRuntime, asked: &Asked, name: &str) {
-    if !asked.silent {
-        report_reason(rt, name, "warning: recursive directory loop");
-    }
-}
-
-/// Reports that the output can't be written, unless it is a pipe that nothing reads from any more.
-pub fn report_output(rt: &HostRuntime, error: &io::Error) {
-    if error.kind() != ErrorKind::BrokenPipe {
-        report_error(rt, "write error", error);
-    }
-}
 
 /// The text without control characters.
 fn shown_text(alloc: Global, text: &str) -> Result<String, AllocError> {

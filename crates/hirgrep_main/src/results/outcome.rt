@@ -5,8 +5,9 @@ ghost use Rattle.hirgrep_main.specs.Outcomes.{Continues, after_result, after_sea
 ghost use Rattle.hirgrep_main.specs.Outcomes.{with_failure, with_file, with_lines};
 
 use crate::options::asked::Asked;
-use crate::results::messages::{Causes, report_error, report_fault, report_output, report_reason};
+use crate::results::messages::{Causes, report_fault};
 use crate::results::totals::{no_stats, no_time};
+use grep_cli::{report_error, report_output, report_reason};
 use grep_core::{Print, SeparatorState};
 use json_events::{Stats, push_summary};
 use line_search::{Fault, Finder};

@@ -1,7 +1,7 @@
 use Rattle.std.proofs.Common.{ap, inl}
 use Rattle.hirgrep_main.specs.Outcomes.{with_totals}
 use Rattle.hirgrep_main.specs.Tasks.{count_of, patterns_by, report_in, whole_report_in}
-use Rattle.hirgrep_main.specs.Texts.{printed_name}
+use Rattle.grep_cli.specs.PrintedNames.{printed_name}
 use Rattle.hirgrep_main.proofs.OutcomeLemmas.{continues_as, continues_searched, continues_with, if_ok, searched_as}
 use Rattle.hirgrep_main.proofs.ReportLemmas.{counted_known}
 use Rattle.hirgrep_main.proofs.files.opening.search_reader.Goals as goal

@@ -1,7 +1,7 @@
 use Rattle.std.proofs.Common.{◌∙◌, false, sym}
 use Rattle.hirgrep_main.specs.Decisions.{is_headed}
 use Rattle.hirgrep_main.specs.Tasks.{body_count, options_in, report_by, whole_report_by}
-use Rattle.hirgrep_main.specs.Texts.{printed_name}
+use Rattle.grep_cli.specs.PrintedNames.{printed_name}
 use Rattle.hirgrep_main.proofs.ReportLemmas.{if_any, input_reported, is_plainly, lines_reported, nothing_written}
 use Rattle.hirgrep_main.proofs.inputs.input_report.report_one.Goals as goal
 

@@ -1,6 +1,6 @@
 use Rattle.std.proofs.Common.{◌∙◌, true, sym}
 use Rattle.hirgrep_main.specs.Decisions.{is_headed}
-use Rattle.hirgrep_main.specs.Readings.{is_by_lines}
+use Rattle.grep_cli.specs.Inputs.{is_by_lines}
 use Rattle.hirgrep_main.specs.Tasks.{body_count, report_by, whole_report_by}
 use Rattle.hirgrep_main.proofs.ReportLemmas.{has_heading, lines_reported}
 use Rattle.hirgrep_main.proofs.inputs.reporting.report_otherwise.Goals as goal

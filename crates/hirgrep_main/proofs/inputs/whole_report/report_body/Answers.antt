@@ -4,7 +4,7 @@ use Rattle.std.specs.Io.KnownBytes.{Appends}
 use Rattle.line_search.specs.Searchers.{SearchesFor}
 use Rattle.hirgrep_main.specs.Readings.{lists_in}
 use Rattle.hirgrep_main.specs.Tasks.{body, body_count, patterns_by}
-use Rattle.hirgrep_main.specs.declared.inputs.reading.Reading.{Reading}
+use Rattle.grep_cli.specs.declared.inputs.reading.Reading.{Reading}
 use Rattle.hirgrep_main.proofs.inputs.whole_report.report_body.Goals as goal
 
 pub returns-in-Text-clause-written : goal.returns-in-Text-clause-written

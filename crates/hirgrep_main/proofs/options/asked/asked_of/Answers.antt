@@ -1,6 +1,6 @@
 use Rattle.std.proofs.Common.{◌∙◌, ap, codes}
 use Rattle.clap.specs.Words.{first_value, found_of}
-use Rattle.hirgrep_main.specs.Asks.{devices_by}
+use Rattle.grep_cli.specs.Flags.{devices_by}
 use Rattle.hirgrep_main.proofs.AskedLemmas.{same_asked}
 use Rattle.hirgrep_main.proofs.options.asked.asked_of.Goals as goal
 

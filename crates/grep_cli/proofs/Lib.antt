@@ -1,0 +1,5 @@
+mod SelectingLemmas
+mod SureLemmas
+pub mod FirstLemmas
+pub mod GivenLemmas
+pub mod SmartLemmas

@@ -1,0 +1,12 @@
+pub mod Counting
+pub mod Entries
+pub mod FileTypes
+pub mod Flags
+pub mod Given
+pub mod Ignores
+pub mod Inputs
+pub mod PrintedNames
+pub mod Selecting
+pub mod SmartCase
+pub mod Strings
+pub mod TypeChanges

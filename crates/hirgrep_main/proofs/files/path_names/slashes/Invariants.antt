@@ -1,9 +1,0 @@
-use Rattle.std.proofs.Common.{◌≡◌, ◌+◌, ◌≤◌, drop}
-use Rattle.hirgrep_main.specs.Selecting.{slashes}
-use Rattle.hirgrep_main.proofs.files.path_names.slashes.Given as goal
-
-abbrev pub invariant-loop-byte : goal.invariant-loop-byte
-invariant-loop-byte l = record {
-  count : l.count + slashes (drop l.byte-index l.part) ≡ slashes l.part;
-  within : l.count ≤ l.byte-index;
-}

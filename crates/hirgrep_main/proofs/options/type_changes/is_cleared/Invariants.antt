@@ -1,7 +1,0 @@
-use Rattle.std.proofs.Common.{◌≡◌, drop, map}
-use Rattle.hirgrep_main.specs.FileTypes.{row_of}
-use Rattle.hirgrep_main.specs.TypeChanges.{is_cleared}
-use Rattle.hirgrep_main.proofs.options.type_changes.is_cleared.Given as goal
-
-abbrev pub invariant-loop-name : goal.invariant-loop-name
-invariant-loop-name l = is_cleared (map (λ n. n.now) (drop l.name-index l.names)) (row_of l.row) ≡ is_cleared (map (λ n. n.now) l.names) (row_of l.row)
