@@ -5,12 +5,14 @@ ghost use Rattle.globs.specs.Rules.{begins};
 ghost use Rattle.grep_cli.specs.Selecting.{base_len, depth_in};
 ghost use Rattle.grep_cli.specs.Selecting.{slashes};
 
+/// Whether two names are equal.
 pub fn is_name(name: &[char], known: &[char]) -> bool
     ensures { result ≡ pointwise nat_eq name.now known.now }
 {
     name == known
 }
 
+/// Whether a name begins with a dot.
 pub fn begins_with_dot(name: &[char]) -> bool
     ensures { result ≡ begins 46 name.now }
 {

@@ -32,6 +32,7 @@ use std::rt::Runtime;
 /// Which ignore files of folders are read.
 #[derive(Clone, Copy)]
 pub struct Ignoring {
+    /// Whether any is read.
     pub reads: bool,
     /// `.ignore` and `.rgignore`.
     pub plain: bool,

@@ -17,7 +17,9 @@ use std::{fs, io, str};
 /// What is at a path.
 #[derive(Clone, Copy)]
 pub enum Kind {
+    /// A regular file.
     File,
+    /// A folder.
     Folder,
     /// A link that isn't followed.
     Link,

@@ -14,6 +14,7 @@ pub struct Counting<R> {
 }
 
 impl<R> Counting<R> {
+    /// A reader that has returned no byte yet.
     pub fn new(reader: R) -> Counting<R>
         ensures reader { result.reader ≡ reader }
         ensures count { result.count ≡ 0 }

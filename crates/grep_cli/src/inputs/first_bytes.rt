@@ -110,6 +110,7 @@ pub struct Searched<R> {
 }
 
 impl<R> Searched<R> {
+    /// What is searched of the input of a reader. `zero` says whether a zero byte is among its first bytes.
     pub fn new(reader: R, binary: Binary, zero: bool) -> Searched<R>
         ensures reader { result.reader ≡ reader }
         ensures binary { result.binary ≡ binary }

@@ -14,7 +14,9 @@ use std::rt::Runtime;
 /// Whether file names are printed before lines.
 #[derive(Clone, Copy)]
 pub enum Names {
+    /// Before each line.
     Always,
+    /// Before no line.
     Never,
     /// If there are several files.
     IfSeveral,
@@ -27,15 +29,18 @@ pub enum Directories {
     Reject,
     /// Its files are searched, and those of the folders in it.
     Recurse,
+    /// It is left out.
     Skip,
 }
 
 /// Which devices, pipes and sockets are read.
 #[derive(Clone, Copy)]
 pub enum Devices {
+    /// All are read.
     ReadAll,
     /// Those that arguments name are read.
     ReadNamed,
+    /// None is read.
     SkipAll,
 }
 

@@ -14,6 +14,7 @@ use std::rt::Runtime;
 /// A file of patterns.
 #[derive(Clone, Copy)]
 pub struct PatternFile<'a> {
+    /// Its name, as it was given. A dash is standard input.
     pub name: &'a str,
     /// The number of its first pattern, counted from 0.
     pub first: usize,
@@ -197,6 +198,7 @@ pub fn given_patterns<'a>(
     patterns_in_words(rt, matches.get_strs("words").unwrap_or(&[]))
 }
 
+/// The strings, borrowed. The error is that memory ran out.
 pub fn strs_of<'a>(alloc: Global, texts: &'a [String]) -> Result<Vec<&'a str>, AllocError>
     ensures { IfOk result (λ v. map (λ s. s.now) v.items ≡ map string_bytes texts.now) }
 {

@@ -14,6 +14,7 @@ pub struct Output<W> {
 }
 
 impl<W> Output<W> {
+    /// A writer to which nothing was written yet.
     pub fn new(writer: W) -> Output<W>
         ensures writer { result.writer ≡ writer }
         ensures wrote { result.wrote ≡ false }

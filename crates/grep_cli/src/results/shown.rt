@@ -52,11 +52,14 @@ pub fn hides_controls(is_terminal: bool, zero_names: bool) -> bool
 /// A name as it was given, or another one that was made of it.
 #[derive(Drop)]
 pub enum PrintedName<'a> {
+    /// As it was given.
     Given(&'a str),
+    /// Made of the one that was given.
     Made(String),
 }
 
 impl<'a> PrintedName<'a> {
+    /// The name.
     pub fn as_str(&self) -> &str
         ensures { result.now ≡ name_bytes self.now }
     {

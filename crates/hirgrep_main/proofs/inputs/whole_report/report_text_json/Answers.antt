@@ -1,4 +1,4 @@
-use Rattle.std.proofs.Common.{◌≡◌, ◌∙◌, ℕ, ap, subst, take}
+use Rattle.std.proofs.Common.{◌∙◌, ℕ, ap, subst, take}
 use Rattle.std.specs.Io.KnownBytes.{Appends}
 use Rattle.json_events.specs.declared.elapsed.Elapsed.{Elapsed}
 use Rattle.json_events.specs.declared.stats.Stats.{Stats}
