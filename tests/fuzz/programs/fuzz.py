@@ -74,13 +74,15 @@ def wrong_with(line, result):
 
 
 def wrong_when_quiet(runs, line, result):
-    """With -q the status is the same, except that 0 comes before an error, and that a pattern whose matches can't be printed may be searched for."""
+    """With -q the status is the same, except that 0 comes before an error, that a pattern whose matches can't be printed may be searched for,
+    and that -L no longer counts, as with GNU grep."""
     if result.status == 2 and b"matches can't be printed or marked" in result.said:
         return None
     quiet = runs.plain(line, ("-q", *line.words))
     if quiet.printed and not has_long(line, "--h", "--ve") and not has_flag(line, "V"):
         return f"-q prints: {quiet.text()}"
-    if quiet.status != result.status and not (result.status == 2 and quiet.status == 0) and not has_flag(line, "L"):
+    is_of_others = has_flag(line, "L") or has_long(line, "--files-witho")
+    if quiet.status != result.status and not (result.status == 2 and quiet.status == 0) and not is_of_others:
         return f"with -q: {quiet.text()}"
     return None
 
