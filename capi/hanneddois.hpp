@@ -80,8 +80,8 @@ struct options {
     /* How deep groups, classes and repetitions of a pattern may nest; 0 for 250. Deeper ones need a larger stack. */
     std::uint32_t nest_limit = 0;
     /* How many bytes each of both caches may take. A capacity that is set is never exceeded, unless
-       flag::raise_capacity raises it. With 0, each may take 2 MiB at first. If searches for matches clear it too soon, it
-       is enlarged, up to 256 MiB. The caches of matching_patterns and of streams are never enlarged. */
+       flag::raise_capacity raises it. With 0, each may take 2 MiB at first. If searches or streams clear it too soon, it
+       is enlarged, up to 256 MiB. */
     std::size_t capacity = 0;
     /* How many bytes each of both automata may take, and the automaton that finds the groups of a pattern; 0 for
        64 MiB. */

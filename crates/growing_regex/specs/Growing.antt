@@ -1,9 +1,11 @@
 -- A regex whose caches may be enlarged, and what its searches return.
-use Rattle.std.specs.Prelude.{◌<◌, ◌≤◌, ℕ, List, Option, Some, None, IfSome, Result}
+use Rattle.std.specs.Prelude.{◌<◌, ◌≤◌, ℕ, Bool, List, Option, Some, None, IfSome, Result, ⊤}
 use Rattle.hir_core.specs.Tree.{Tree}
 use Rattle.search_types.specs.declared.match_error.MatchErrorKind.{MatchErrorKind}
 use Rattle.search_types.specs.Found.{Found}
 use Rattle.search_types.specs.Inputs.{Search}
+use Rattle.lazy_dfa.specs.Caches.{CacheValue}
+use Rattle.lazy_dfa.specs.OverlappingAnswers.{AnswersWhich}
 use Rattle.regex_pair.specs.PairAnswers.{AnswersPair}
 use Rattle.regex_pair.specs.Pairs.{Pair, PairCache}
 use Rattle.regex_pair.specs.Taken.{IsWholeList}
@@ -48,3 +50,10 @@ pub record ListsBy (g : Growing) (q : Search) (fs : List Found) : Type 0 where
   pub pair : Pair
   pub grown : AreGrown g pair
   pub whole : IsWholeList pair q fs
+
+-- An overlapping search by such automata adds the patterns of its match ends to a set.
+pub record AddsBy (g : Growing) (q : Search) (old new : List Bool) (result : Result ⊤ MatchErrorKind) : Type 0 where
+  pub pair : Pair
+  pub cache : CacheValue
+  pub grown : AreGrown g pair
+  pub answer : AnswersWhich pair.forward cache q old new result

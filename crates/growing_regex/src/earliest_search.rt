@@ -1,5 +1,5 @@
 //! One half search forward for the earliest end.
-ghost use Rattle.std.specs.Prelude.{◌≡◌, ◌≤◌, ◌<◌, All, length};
+ghost use Rattle.std.specs.Prelude.{◌≡◌, ◌≤◌, ◌<◌, length};
 ghost use Rattle.lazy_dfa.specs.SearchAnswers.{Answers};
 ghost use Rattle.regex_pair.specs.Pairs.{AreCachesOf};
 ghost use Rattle.growing_regex.specs.Earliest.{earliest_search, end_result};
@@ -8,11 +8,6 @@ use lazy_dfa::Work;
 use regex_pair::regex::{Cache, Regex};
 use search_types::{HalfMatch, Input, MatchError};
 use std::sync::ledger::{Blank, Ledger};
-
-/// A block consists of bytes.
-pub(crate) fn see_bytes(bytes: &[u8])
-    ensures { All (λ byte. byte < 256) bytes.now }
-{}
 
 /// The search of a block from an offset on.
 pub(crate) fn search_from<'h>(block: &'h [u8], at: usize) -> Input<'h>

@@ -12,9 +12,11 @@
 mod earliest_search;
 pub mod laws;
 mod listing;
+mod overlapping_search;
 mod regex;
 mod resizing;
 mod size;
 
 pub use regex::{GrowingRegex, LARGEST};
 pub use resizing::shared;
+pub use size::Size;

@@ -8,16 +8,17 @@ ghost use Rattle.regex_pair.specs.Pairs.{AreCachesOf};
 ghost use Rattle.hir_regex.specs.declared.settings.Settings.{Settings};
 ghost use Rattle.hir_regex.specs.Built.{IsBuilt, FindsFirst};
 ghost use Rattle.growing_regex.specs.Earliest.{IsEarliestEnd, IsEarliestError, looks_by};
-ghost use Rattle.growing_regex.specs.Growing.{AnswersBy, AreGrown, ListsBy};
+ghost use Rattle.growing_regex.specs.Growing.{AddsBy, AnswersBy, AreGrown, ListsBy};
 
-use crate::earliest_search::{end_of, search_counted, search_from, see_bytes};
+use crate::earliest_search::{end_of, search_counted, search_from};
 use crate::laws::calls_report_the_least_end;
 use crate::listing::list;
+use crate::overlapping_search::add_counted;
 use crate::resizing::resized;
 use crate::size::Size;
-use hir_regex::find;
+use hir_regex::{find, see_bytes};
 use regex_pair::regex::{Cache, Regex};
-use search_types::{Input, Match, MatchError, MatchErrorKind};
+use search_types::{Input, Match, MatchError, MatchErrorKind, PatternSet};
 use std::alloc::{AllocError, Global};
 use std::marker::{Brand, Model};
 use std::sync::Arc;
@@ -210,6 +211,27 @@ impl GrowingRegex {
             Ok(all) => {
                 self.note(bytes);
                 Ok(all)
+            }
+            Err(e) => Err(e),
+        }
+    }
+
+    /// Adds the patterns of all match ends in a span to a set, as `DFA::try_which_overlapping_matches`. If the regex finds all matches, these
+    /// are the patterns that match. If the call fails, the patterns of the ends that were found before stay in the set.
+    pub fn try_which_overlapping_matches(
+        &mut self,
+        input: &Input<'_>,
+        set: &mut PatternSet,
+    ) -> Result<(), MatchError>
+        ensures same { self.new ≡ self.old }
+        ensures added { AddsBy self.old input.now set.old set.new result }
+    {
+        let first = Blank::new(1);
+        let second = Blank::new(1);
+        match add_counted::<Brand, Brand>(&self.regex, &mut self.cache, input, set, first, second) {
+            Ok(()) => {
+                self.note(input.end().saturating_sub(input.start()));
+                Ok(())
             }
             Err(e) => Err(e),
         }

@@ -2,12 +2,12 @@
 use Rattle.std.proofs.Common.{◌≡◌, ◌∙◌, ℕ, Bool, List, ap, sym, subst}
 use Rattle.regex_syntax.specs.declared.Config.{Config}
 use Rattle.search_types.specs.declared.match_kind.MatchKind.{MatchKind}
-use Rattle.search_types.specs.declared.match_kind.MatchKind.TheVariants.{LeftmostFirst}
+use Rattle.search_types.specs.declared.match_kind.MatchKind.TheVariants.{All as AllMatches, LeftmostFirst}
 use Rattle.regex_pair.specs.Pairs.{Pair}
 use Rattle.growing_regex.specs.Growing.{AreGrown, Growing, sized_settings}
 use Rattle.meta_regex.specs.declared.cache.Cache.{Cache}
 use Rattle.meta_regex.specs.declared.options.Options.{Options}
-use Rattle.meta_regex.specs.Caches.{AreAutomataOf, AreWordlessAutomataOf, IsCacheOf, KeepsCapacity}
+use Rattle.meta_regex.specs.Caches.{AreAutomataOf, AreReportersOf, AreWordlessAutomataOf, IsCacheOf, KeepsCapacity}
 use Rattle.meta_regex.specs.Options.{largest_capacity}
 use Rattle.meta_regex.specs.Regexes.{AreBuiltOf, AreReportedOf, RegexValue, config_by}
 use Rattle.meta_regex.specs.Wordless.{AreWordlessOf}
@@ -17,19 +17,29 @@ pub reported_of : (v : RegexValue) (g : Growing) → AreAutomataOf v g → AreRe
 unfolding AreAutomataOf
 reported_of v g it = it.0
 
-pub wordless_of : (v : RegexValue) (g : Growing) → AreWordlessAutomataOf v g → AreWordlessOf (config_by v) v.texts LeftmostFirst g.pair
+pub reporters_of : (v : RegexValue) (g : Growing) → AreReportersOf v g → AreBuiltOf (config_by v) v.texts AllMatches g.pair
+unfolding AreReportersOf
+reporters_of v g it = it.0
+
+pub wordless_of : (v : RegexValue) (kind : MatchKind) (g : Growing) → AreWordlessAutomataOf v kind g →
+    AreWordlessOf (config_by v) v.texts kind g.pair
 unfolding AreWordlessAutomataOf
-wordless_of v g it = it.0
+wordless_of v kind g it = it.0
 
 pub automata_of : (v : RegexValue) (g : Growing) → AreReportedOf (config_by v) v.texts LeftmostFirst v.loops g.pair → KeepsCapacity v g →
     AreAutomataOf v g
 unfolding AreAutomataOf
 automata_of v g reported kept = (reported, kept)
 
-pub wordless_automata_of : (v : RegexValue) (g : Growing) → AreWordlessOf (config_by v) v.texts LeftmostFirst g.pair → KeepsCapacity v g →
-    AreWordlessAutomataOf v g
+pub made_reporters : (v : RegexValue) (g : Growing) → AreBuiltOf (config_by v) v.texts AllMatches g.pair → KeepsCapacity v g →
+    AreReportersOf v g
+unfolding AreReportersOf
+made_reporters v g built kept = (built, kept)
+
+pub wordless_automata_of : (v : RegexValue) (kind : MatchKind) (g : Growing) → AreWordlessOf (config_by v) v.texts kind g.pair →
+    KeepsCapacity v g → AreWordlessAutomataOf v kind g
 unfolding AreWordlessAutomataOf
-wordless_automata_of v g wordless kept = (wordless, kept)
+wordless_automata_of v kind g wordless kept = (wordless, kept)
 
 -- a search leaves automata of the patterns
 pub automata_kept : (v : RegexValue) (c : Cache) (g : Growing) → g ≡ c.automata → IsCacheOf v c → IsCacheOf v (record c { automata = g })
@@ -48,7 +58,7 @@ capacity_kept v o g pair largest same kept is =
     ap (λ (x : Growing). x.largest) is ∙ kept ∙ ap (λ (p : Options). largest_capacity p) same
 
 -- automata with caches of another capacity are of the same patterns
-built_grown : (config : Config) (texts : List (List ℕ)) (kind : MatchKind) (g : Growing) (p : Pair) → AreBuiltOf config texts kind g.pair →
+pub built_grown : (config : Config) (texts : List (List ℕ)) (kind : MatchKind) (g : Growing) (p : Pair) → AreBuiltOf config texts kind g.pair →
     AreGrown g p → AreBuiltOf config texts kind p
 built_grown config texts kind g p it grown = record {
   trees = it.trees;

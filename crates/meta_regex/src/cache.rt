@@ -1,17 +1,14 @@
 //! What searches change.
-ghost use Rattle.std.specs.Prelude.{IfErr, IfOk, IfSome, ℕ, List};
+ghost use Rattle.std.specs.Prelude.{◌≡◌, IfErr, IfOk, IfSome, ℕ, List};
 ghost use Rattle.regex_syntax.specs.declared.Config.{Config as TextConfig};
-ghost use Rattle.search_types.specs.declared.match_kind.MatchKind.TheVariants.{All as AllMatches, LeftmostFirst};
-ghost use Rattle.meta_regex.specs.Caches.{AreWordlessAutomataOf, IsCacheOf};
+ghost use Rattle.meta_regex.specs.Caches.{AreReportersOf, AreWordlessAutomataOf, IsCacheOf, KeepsCapacity};
 ghost use Rattle.meta_regex.specs.Fallbacks.{AreFallbacksOf};
-ghost use Rattle.meta_regex.specs.Regexes.{AreBuiltOf, IsSearchError, config_by};
-ghost use Rattle.meta_regex.specs.Wordless.{AreWordlessOf};
+ghost use Rattle.meta_regex.specs.Regexes.{IsSearchError, config_by};
 
 use crate::building::build_pair;
 use crate::compiled::Regex;
 use crate::errors::SearchError;
 use crate::fallback::{Fallbacks, fallbacks_of};
-use crate::overlapping::OverlappingSearcher;
 use crate::texts::borrowed;
 use crate::wordless::wordless_pair;
 use growing_regex::{GrowingRegex, shared};
@@ -22,56 +19,56 @@ use std::alloc::{AllocError, Global};
 /// The caches of a regex's automata, and what its searches made later. It is usable only with a regex of the same patterns and options as the
 /// one for which it was made.
 ///
-/// If the options set no capacity, caches that searches for matches clear too soon are enlarged, up to 256 MiB each. A capacity that is set
-/// is never exceeded.
+/// If the options set no capacity, caches that searches clear too soon are enlarged, up to 256 MiB each. If they set one, caches are never
+/// enlarged.
 ///
 /// Other parts are made once a search needs them: the automaton that reports which patterns match, the automata without looks at words,
 /// and the toolchain's programs.
 #[derive(Drop)]
 pub struct Cache {
     pub(crate) automata: GrowingRegex,
-    pub(crate) overlapping: Option<OverlappingSearcher>,
+    pub(crate) overlapping: Option<GrowingRegex>,
     pub(crate) fallbacks: Option<Fallbacks>,
     pub(crate) wordless: Option<GrowingRegex>,
-    pub(crate) wordless_overlapping: Option<OverlappingSearcher>,
+    pub(crate) wordless_overlapping: Option<GrowingRegex>,
     /// Whether searches for literals pay.
     pub(crate) effort: Effort,
+}
+
+/// How often the caches of these automata were cleared, if they were made.
+fn clears_of(automata: &Option<GrowingRegex>) -> usize {
+    match automata {
+        Some(it) => it.clear_count(),
+        None => 0,
+    }
+}
+
+/// The bytes that the caches of these automata are estimated to need, if they were made.
+fn usage_of(automata: &Option<GrowingRegex>) -> usize {
+    match automata {
+        Some(it) => it.memory_usage(),
+        None => 0,
+    }
 }
 
 impl Cache {
     /// How often the caches of the automata were cleared, also those that larger ones have replaced. The greatest number stands for any number
     /// above it.
     pub fn clear_count(&self) -> usize {
-        let clears = self.automata.clear_count();
-        let clears = match &self.overlapping {
-            Some(searcher) => clears.saturating_add(searcher.clear_count()),
-            None => clears,
-        };
-        let clears = match &self.wordless {
-            Some(searcher) => clears.saturating_add(searcher.clear_count()),
-            None => clears,
-        };
-        match &self.wordless_overlapping {
-            Some(searcher) => clears.saturating_add(searcher.clear_count()),
-            None => clears,
-        }
+        self.automata
+            .clear_count()
+            .saturating_add(clears_of(&self.overlapping))
+            .saturating_add(clears_of(&self.wordless))
+            .saturating_add(clears_of(&self.wordless_overlapping))
     }
 
     /// The bytes that the caches of the automata are estimated to need.
     pub fn memory_usage(&self) -> usize {
-        let usage = self.automata.memory_usage();
-        let usage = match &self.overlapping {
-            Some(searcher) => usage.saturating_add(searcher.memory_usage()),
-            None => usage,
-        };
-        let usage = match &self.wordless {
-            Some(searcher) => usage.saturating_add(searcher.memory_usage()),
-            None => usage,
-        };
-        match &self.wordless_overlapping {
-            Some(searcher) => usage.saturating_add(searcher.memory_usage()),
-            None => usage,
-        }
+        self.automata
+            .memory_usage()
+            .saturating_add(usage_of(&self.overlapping))
+            .saturating_add(usage_of(&self.wordless))
+            .saturating_add(usage_of(&self.wordless_overlapping))
     }
 }
 
@@ -92,9 +89,23 @@ impl Regex {
         })
     }
 
-    /// The automaton that reports which patterns match, if it can be made.
-    fn overlapping_searcher(&self, alloc: Global) -> Option<OverlappingSearcher>
-        ensures { IfSome result (AreBuiltOf (config_by self.now) self.now.texts AllMatches) }
+    /// These automata with empty caches, which are enlarged as far as the options allow.
+    fn growing(&self, alloc: Global, pair: regex_pair::regex::Regex) -> Option<GrowingRegex>
+        ensures same { IfSome result (λ g. g.pair ≡ pair) }
+        ensures capacity { IfSome result (KeepsCapacity self.now) }
+    {
+        let Ok(regex) = shared(alloc, pair) else {
+            return None;
+        };
+        match GrowingRegex::new(alloc, regex, self.options().largest_capacity()) {
+            Ok(growing) => Some(growing),
+            Err(_) => None,
+        }
+    }
+
+    /// The automata that report which patterns match, if they can be made.
+    fn reporters(&self, alloc: Global) -> Option<GrowingRegex>
+        ensures { IfSome result (AreReportersOf self.now) }
     {
         let texts = match borrowed(alloc, self.texts()) {
             Ok(texts) => texts,
@@ -104,15 +115,15 @@ impl Regex {
             Ok(built) => built,
             Err(_) => return None,
         };
-        match OverlappingSearcher::of(alloc, built.pair) {
-            Ok(searcher) => Some(searcher),
-            Err(_) => None,
+        match self.growing(alloc, built.pair) {
+            Some(automata) => Some(automata),
+            None => None,
         }
     }
 
     /// The automata of the patterns without their looks at words that find matches of this kind, if they can be made.
-    fn wordless_pair(&self, alloc: Global, kind: MatchKind) -> Option<regex_pair::regex::Regex>
-        ensures { IfSome result (AreWordlessOf (config_by self.now) self.now.texts kind) }
+    fn wordless_automata(&self, alloc: Global, kind: MatchKind) -> Option<GrowingRegex>
+        ensures { IfSome result (AreWordlessAutomataOf self.now kind) }
     {
         let texts = match borrowed(alloc, self.texts()) {
             Ok(texts) => texts,
@@ -121,35 +132,9 @@ impl Regex {
         let Some(pair) = wordless_pair(alloc, &texts, &self.options(), kind) else {
             return None;
         };
-        Some(pair)
-    }
-
-    /// What finds the least start of a match without looks at words, if it can be made.
-    fn wordless_searcher(&self, alloc: Global) -> Option<GrowingRegex>
-        ensures { IfSome result (AreWordlessAutomataOf self.now) }
-    {
-        let Some(pair) = self.wordless_pair(alloc, MatchKind::LeftmostFirst) else {
-            return None;
-        };
-        let Ok(regex) = shared(alloc, pair) else {
-            return None;
-        };
-        match GrowingRegex::new(alloc, regex, self.options().largest_capacity()) {
-            Ok(searcher) => Some(searcher),
-            Err(_) => None,
-        }
-    }
-
-    /// The automaton that reports which patterns match without looks at words, if it can be made.
-    fn wordless_overlapping(&self, alloc: Global) -> Option<OverlappingSearcher>
-        ensures { IfSome result (AreWordlessOf (config_by self.now) self.now.texts AllMatches) }
-    {
-        let Some(pair) = self.wordless_pair(alloc, MatchKind::All) else {
-            return None;
-        };
-        match OverlappingSearcher::of(alloc, pair) {
-            Ok(searcher) => Some(searcher),
-            Err(_) => None,
+        match self.growing(alloc, pair) {
+            Some(automata) => Some(automata),
+            None => None,
         }
     }
 
@@ -160,7 +145,7 @@ impl Regex {
         ensures { IsCacheOf self.now cache.new }
     {
         if cache.overlapping.is_none() {
-            cache.overlapping = self.overlapping_searcher(alloc);
+            cache.overlapping = self.reporters(alloc);
         }
     }
 
@@ -170,7 +155,7 @@ impl Regex {
         ensures { IsCacheOf self.now cache.new }
     {
         if cache.wordless.is_none() {
-            cache.wordless = self.wordless_searcher(alloc);
+            cache.wordless = self.wordless_automata(alloc, MatchKind::LeftmostFirst);
         }
     }
 
@@ -180,7 +165,7 @@ impl Regex {
         ensures { IsCacheOf self.now cache.new }
     {
         if cache.wordless_overlapping.is_none() {
-            cache.wordless_overlapping = self.wordless_overlapping(alloc);
+            cache.wordless_overlapping = self.wordless_automata(alloc, MatchKind::All);
         }
     }
 

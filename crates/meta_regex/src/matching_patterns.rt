@@ -10,7 +10,7 @@ use crate::cache::Cache;
 use crate::compiled::Regex;
 use crate::errors::SearchError;
 use crate::fallback::have_each;
-use crate::overlapping::tests_of;
+use crate::overlapping::{add_matching, tests_of};
 use search_core::PatternID;
 use search_types::PatternSet;
 use std::alloc::{AllocError, Global};
@@ -90,10 +90,10 @@ impl Regex {
         let Some(mut set) = empty_set(alloc, self.pattern_count()) else {
             return None;
         };
-        let Some(searcher) = &mut cache.overlapping else {
+        let Some(automata) = &mut cache.overlapping else {
             return None;
         };
-        match searcher.matching_patterns(haystack, &mut set) {
+        match add_matching(automata, haystack, &mut set) {
             Ok(()) => {}
             Err(_) => return None,
         }
@@ -120,10 +120,10 @@ impl Regex {
         let Some(mut set) = empty_set(alloc, self.pattern_count()) else {
             return None;
         };
-        let Some(searcher) = &mut cache.wordless_overlapping else {
+        let Some(automata) = &mut cache.wordless_overlapping else {
             return None;
         };
-        match searcher.matching_patterns(haystack, &mut set) {
+        match add_matching(automata, haystack, &mut set) {
             Ok(()) => {}
             Err(_) => return None,
         }

@@ -24,8 +24,7 @@ pub struct Options {
     /// How many bytes each of both NFAs may take; `None` means any number.
     pub size_limit: Option<usize>,
     /// How many bytes each of both caches may take. A capacity that is set is never exceeded, unless `skip_cache_capacity_check` raises it.
-    /// `None` means the default of [`lazy_dfa`], 2 MiB, at first. If searches for matches clear a cache too soon, it is enlarged, up to
-    /// 256 MiB.
+    /// `None` means the default of [`lazy_dfa`], 2 MiB, at first. If searches clear a cache too soon, it is enlarged, up to 256 MiB.
     pub cache_capacity: Option<usize>,
 }
 
