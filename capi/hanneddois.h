@@ -167,8 +167,8 @@ typedef struct hanneddois_options {
     /* How deep groups, classes and repetitions of a pattern may nest; 0 for 250. Deeper ones need a larger stack. */
     uint32_t nest_limit;
     /* How many bytes each of both caches may take. A capacity that is set is never exceeded, unless
-       HANNEDDOIS_RAISE_CAPACITY raises it. With 0, each may take 2 MiB at first. If searches for matches clear it too
-       soon, it is enlarged, up to 256 MiB. Those of hanneddois_matching_patterns and of streams are never enlarged. */
+       HANNEDDOIS_RAISE_CAPACITY raises it. With 0, each may take 2 MiB at first. If searches for matches or streams clear
+       it too soon, it is enlarged, up to 256 MiB. Those of hanneddois_matching_patterns are never enlarged. */
     size_t capacity;
     /* How many bytes each of both automata may take, and the automaton that finds the groups of a pattern; 0 for
        64 MiB. */

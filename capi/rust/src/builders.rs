@@ -120,8 +120,8 @@ macro_rules! options {
 
         /// How many bytes each of both caches may take. A limit that is set is never exceeded, unless
         /// [`skip_cache_capacity_check`](Self::skip_cache_capacity_check) raises it. The default, for which 0 stands, is
-        /// 2 MiB at first. If searches for matches clear a cache too soon, it is enlarged, up to 256 MiB. The caches of
-        /// `matching_patterns` and of streams are never enlarged.
+        /// 2 MiB at first. If searches for matches or streams clear a cache too soon, it is enlarged, up to 256 MiB. The
+        /// caches of `matching_patterns` are never enlarged.
         pub fn dfa_size_limit(&mut self, bytes: usize) -> &mut Self {
             self.0.options.capacity = bytes;
             self

@@ -54,7 +54,7 @@ pub struct Options {
     /// How deep groups, classes and repetitions may nest; 0 means 250.
     pub nest_limit: u32,
     /// How many bytes each of both caches may take. A capacity that is set is never exceeded, unless a flag raises one that is too small. 0
-    /// means 2 MiB at first; a cache that searches for matches clear too soon is enlarged, up to 256 MiB.
+    /// means 2 MiB at first; a cache that searches for matches or streams clear too soon is enlarged, up to 256 MiB.
     pub capacity: usize,
     /// How many bytes each of both automata may take; 0 means 64 MiB.
     pub size_limit: usize,

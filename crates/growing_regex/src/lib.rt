@@ -18,3 +18,4 @@ mod size;
 
 pub use regex::{GrowingRegex, LARGEST};
 pub use resizing::shared;
+pub use size::Size;

@@ -12,20 +12,20 @@ const WORTH: usize = 8;
 
 /// The size of the caches of a regex, and how soon they were cleared.
 #[derive(Clone, Copy, Debug)]
-pub(crate) struct Size {
+pub struct Size {
     /// The capacity in bytes of each of both caches.
-    pub(crate) capacity: usize,
+    pub capacity: usize,
     /// How often the caches were cleared, as it was last recorded.
-    pub(crate) clears: usize,
+    pub clears: usize,
     /// How often caches were cleared that have been replaced by these.
-    pub(crate) past_clears: usize,
+    pub past_clears: usize,
     /// How many bytes were searched since they were last cleared.
     searched: usize,
 }
 
 impl Size {
     /// The size of caches that no search has used yet.
-    pub(crate) fn of(capacity: usize) -> Size
+    pub fn of(capacity: usize) -> Size
         ensures { result.capacity ≡ capacity }
     {
         Size {
@@ -38,14 +38,14 @@ impl Size {
 
     /// How often all caches were cleared, those that have been replaced included, if the present ones were cleared this often. The greatest
     /// number stands for any number above it.
-    pub(crate) fn clear_count(&self, clears: usize) -> usize
+    pub fn clear_count(&self, clears: usize) -> usize
         ensures { result ≡ min (self.now.past_clears + clears) greatest }
     {
         self.past_clears.saturating_add(clears)
     }
 
     /// The size of new caches of this capacity, if the present ones were cleared this often.
-    pub(crate) fn enlarged(&self, capacity: usize, clears: usize) -> Size
+    pub fn enlarged(&self, capacity: usize, clears: usize) -> Size
         ensures capacity { result.capacity ≡ capacity }
         ensures past { result.past_clears ≡ min (self.now.past_clears + clears) greatest }
     {
@@ -57,7 +57,7 @@ impl Size {
 
     /// Records that this many more bytes were searched.
     #[inline(always)]
-    pub(crate) fn pass(&mut self, bytes: usize)
+    pub fn pass(&mut self, bytes: usize)
         ensures { self.new.capacity ≡ self.old.capacity }
     {
         self.searched = self.searched.saturating_add(bytes);
@@ -65,7 +65,7 @@ impl Size {
 
     /// Records how often the caches have been cleared in all, more often than before. If they were cleared too soon, and may be larger, it
     /// returns the next larger capacity, which is at most the largest one.
-    pub(crate) fn larger(&mut self, clears: usize, largest: usize) -> Option<usize>
+    pub fn larger(&mut self, clears: usize, largest: usize) -> Option<usize>
         ensures more { IfSome result (λ capacity. self.old.capacity < capacity) }
         ensures most { IfSome result (λ capacity. capacity ≤ largest) }
     {
