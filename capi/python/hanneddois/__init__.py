@@ -88,7 +88,7 @@ class Regex(Matcher):
     patterns     a list of patterns; each is a str, or bytes that are UTF-8. If several match at the same offset, the first one of them counts.
     flags        flags of this module, joined by |
     capacity     how many bytes each of both caches may take, which is never exceeded; 0 for 2 MiB, which are enlarged, up to 256 MiB, if searches
-                 clear a cache too soon
+                 or streams clear a cache too soon
     size_limit   how many bytes each of both automata may take; 0 for 64 MiB
     nest_limit   how deep groups, classes and repetitions may nest; 0 for 250
 

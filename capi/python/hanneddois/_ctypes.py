@@ -346,7 +346,7 @@ class Matcher:
     patterns = property(lambda self: self._patterns, doc="The patterns, as they were given.")
     flags = property(lambda self: self._options[0], doc="The flags.")
     nest_limit = property(lambda self: self._options[1], doc="How deep groups, classes and repetitions may nest; 0 for 250.")
-    capacity = property(lambda self: self._options[2], doc="How many bytes each of both caches may take, which is never exceeded; 0 for 2 MiB, and up to 256 MiB if searches for matches need more.")
+    capacity = property(lambda self: self._options[2], doc="How many bytes each of both caches may take, which is never exceeded; 0 for 2 MiB, and up to 256 MiB if searches or streams need more.")
     size_limit = property(lambda self: self._options[3], doc="How many bytes each of both automata may take; 0 for 64 MiB.")
     pattern_count = property(lambda self: len(self._patterns), doc="How many patterns there are.")
 

@@ -2562,7 +2562,7 @@ static PyMemberDef matcher_members[] = {
     {"patterns", T_OBJECT, offsetof(Matcher, given), READONLY, "The patterns, as they were given."},
     {"pattern_count", T_PYSSIZET, offsetof(Matcher, count), READONLY, "How many patterns there are."},
     {"flags", T_UINT, offsetof(Matcher, options.flags), READONLY, "The flags."},
-    {"capacity", T_PYSSIZET, offsetof(Matcher, options.capacity), READONLY, "How many bytes each of both caches may take, which is never exceeded; 0 for 2 MiB, and up to 256 MiB if searches for matches need more."},
+    {"capacity", T_PYSSIZET, offsetof(Matcher, options.capacity), READONLY, "How many bytes each of both caches may take, which is never exceeded; 0 for 2 MiB, and up to 256 MiB if searches or streams need more."},
     {"size_limit", T_PYSSIZET, offsetof(Matcher, options.size_limit), READONLY, "How many bytes each of both automata may take; 0 for 64 MiB."},
     {"nest_limit", T_UINT, offsetof(Matcher, options.nest_limit), READONLY, "How deep groups, classes and repetitions may nest; 0 for 250."},
     {NULL, 0, 0, 0, NULL},

@@ -1,4 +1,5 @@
 pub mod AnswerLemmas
+pub mod ForCallers
 mod GrownLemmas
 pub mod LookLemmas
 pub mod PassLemmas

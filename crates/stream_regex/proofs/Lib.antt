@@ -2,3 +2,4 @@ mod BuiltLemmas
 mod MeaningLemmas
 mod SetLemmas
 mod LineMeaningLemmas
+mod GrowingLemmas

@@ -1,3 +1,4 @@
 pub mod StreamRegexes
 pub mod Meaning
 pub mod Sets
+pub mod Capacities

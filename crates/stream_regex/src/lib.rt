@@ -4,10 +4,13 @@
 //! What a stream reports is defined in the crate `streams`; that these are the ends of what the patterns match is a law ([`laws`]).
 #![tactic(auto)]
 
+mod calls;
 mod errors;
+mod growing;
 pub mod laws;
 mod options;
 mod regex;
+mod resizing;
 mod set;
 mod set_calls;
 

@@ -1,7 +1,9 @@
 //! How patterns are searched for in pieces.
 ghost use Rattle.std.specs.Prelude.{◌≡◌};
+ghost use Rattle.stream_regex.specs.Capacities.{largest_capacity};
 ghost use Rattle.stream_regex.specs.StreamRegexes.{dfa_options_of, settings_of};
 
+use growing_regex::LARGEST;
 use hir_regex::Settings;
 use lazy_dfa::dfa;
 use pattern_text::Config;
@@ -18,7 +20,8 @@ pub struct Options {
     pub skip_cache_capacity_check: bool,
     /// How many bytes each NFA may take; `None` means any number.
     pub size_limit: Option<usize>,
-    /// How many bytes the cache may take; `None` means the default of [`lazy_dfa`].
+    /// How many bytes the cache may take. `None` means the default of [`lazy_dfa`] at first; a cache that is cleared too soon is then
+    /// enlarged, up to 256 MiB.
     pub cache_capacity: Option<usize>,
     /// Whether the streams of a set search each line of their input by itself. A line feed ends a line.
     pub lines: bool,
@@ -48,6 +51,16 @@ impl Options {
             size_limit: self.size_limit,
             dfa: self.dfa(),
             ..Settings::new()
+        }
+    }
+
+    /// The largest capacity in bytes to which the cache of a set is enlarged: 256 MiB. 0, so that it is never enlarged, if one is set.
+    pub(crate) fn largest_capacity(&self) -> usize
+        ensures { result ≡ largest_capacity self.now.cache_capacity }
+    {
+        match self.cache_capacity {
+            Some(_) => 0,
+            None => LARGEST,
         }
     }
 }

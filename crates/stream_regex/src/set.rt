@@ -1,22 +1,25 @@
 //! Many streams over one automaton and one cache.
-ghost use Rattle.std.specs.Prelude.{◌≡◌, [], IfErr, IfOk, map};
+ghost use Rattle.std.specs.Prelude.{◌≡◌, ◌≤◌, [], IfErr, IfOk, map};
+ghost use Rattle.stream_regex.specs.Capacities.{IsOrigin, most_usage};
 ghost use Rattle.stream_regex.specs.Sets.{IsNewSet, SetValue};
 ghost use Rattle.stream_regex.specs.StreamRegexes.{IsNewError};
 
 use crate::errors::NewError;
+use crate::growing::GrowingDfa;
 use crate::options::Options;
 use crate::regex::StreamRegex;
-use lazy_dfa::dfa::Cache;
 use std::alloc::{AllocError, Global};
 use std::marker::Model;
 use streams::Stream;
 
 /// An automaton of patterns, a cache, and streams that share both. A stream is known by its number, which [`open`](StreamSet::open) returns.
 /// The number of a stream that was removed may be used again.
+///
+/// If the options set no capacity, a cache that is cleared too soon is enlarged, up to 256 MiB. A capacity that is set is never exceeded. What
+/// streams report doesn't depend on it.
 #[derive(Drop)]
 pub struct StreamSet {
-    pub(crate) regex: StreamRegex,
-    pub(crate) cache: Cache,
+    pub(crate) automaton: GrowingDfa,
     pub(crate) streams: Vec<Option<Stream>>,
     /// Numbers that no stream has.
     pub(crate) free: Vec<usize>,
@@ -25,24 +28,28 @@ pub struct StreamSet {
 }
 
 impl Model for StreamSet {
-    ghost use Rattle.lazy_dfa.specs.Caches.{IsCacheOf};
     ghost use Rattle.stream_regex.specs.Sets.{AreStreamsOf, SetValue};
 
     ghost Value = { SetValue };
 
-    ghost view = { λ s. record { dfa = s.regex; streams = s.streams.items; lines = s.lines } };
+    ghost view = { λ s. record { dfa = s.automaton; streams = s.streams.items; lines = s.lines } };
 
-    ghost invariant = { λ s. IsCacheOf s.regex s.cache × AreStreamsOf s.regex s.streams.items };
+    ghost invariant = { λ s. AreStreamsOf s.automaton s.streams.items };
 }
 
-/// A set of no streams, over a regex.
-fn set_of(alloc: Global, regex: StreamRegex, lines: bool) -> Result<StreamSet, AllocError>
+/// A set of no streams, over a regex. Its cache is enlarged to at most this capacity in bytes.
+fn set_of(
+    alloc: Global,
+    regex: StreamRegex,
+    largest: usize,
+    lines: bool,
+) -> Result<StreamSet, AllocError>
+    requires { IsOrigin regex largest }
     ensures { IfOk result (λ v. v ≡ record { dfa = regex; streams = []; lines = lines }) }
 {
-    let cache = regex.create_cache(alloc)?;
+    let automaton = GrowingDfa::new(alloc, regex, largest)?;
     Ok(StreamSet {
-        regex,
-        cache,
+        automaton,
         streams: Vec::new(alloc),
         free: Vec::new(alloc),
         lines,
@@ -59,19 +66,22 @@ impl StreamSet {
             Ok(regex) => regex,
             Err(e) => return Err(e),
         };
-        match set_of(alloc, regex, options.lines) {
+        match set_of(alloc, regex, options.largest_capacity(), options.lines) {
             Ok(set) => Ok(set),
             Err(_) => Err(NewError::NoMemory),
         }
     }
 
-    /// How often the cache was cleared.
+    /// How often caches were cleared, those included that larger ones have replaced. The greatest number stands for any number above it.
     pub fn clear_count(&self) -> usize {
-        self.cache.clear_count()
+        self.automaton.clear_count()
     }
 
-    /// The bytes that the cache is estimated to need.
-    pub fn memory_usage(&self) -> usize {
-        self.cache.memory_usage()
+    /// The bytes that the cache is estimated to need. These are at most the capacity that the options set, or 256 MiB if they set none. A
+    /// capacity that is too small for the automaton counts as the least possible one.
+    pub fn memory_usage(&self) -> usize
+        ensures { result ≤ most_usage self.now.dfa }
+    {
+        self.automaton.memory_usage()
     }
 }

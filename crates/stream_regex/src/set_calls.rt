@@ -1,11 +1,9 @@
 //! Calls with a stream of a set.
 ghost use Rattle.std.specs.Prelude.{◌≡◌, ◌<◌, ℕ, IfErr, IfOk, IfSome, None, Some, length, option_map, slice_set, true};
-ghost use Rattle.lazy_dfa.specs.Caches.{IsCacheOf};
 ghost use Rattle.streams.specs.Streams.{IsStreamOf, fresh_stream};
-ghost use Rattle.stream_regex.specs.Sets.{ChangesAt, ClosesAt, CopiesAt, FeedsAt, IsAdded, IsClosedIn, IsFedIn, IsSameSet, stream_at};
+ghost use Rattle.stream_regex.specs.Sets.{ChangesAt, ClosesAt, CopiesAt, FeedsAt, IsAdded, IsSameSet, stream_at};
 
 use crate::set::StreamSet;
-use lazy_dfa::dfa::{Cache, DFA};
 use std::alloc::AllocError;
 use std::mem;
 use streams::{Fed, Stream, StreamError, StreamMatch};
@@ -62,52 +60,6 @@ fn note(free: &mut Vec<usize>, number: usize) {
     match free.push(number) {
         Ok(()) => {}
         Err(_) => {}
-    }
-}
-
-/// What ends a line.
-const LINE_FEED: u8 = 10;
-
-/// Feeds a stream, line by line or not.
-fn feed_in(
-    lines: bool,
-    dfa: &DFA,
-    cache: &mut Cache,
-    stream: &mut Stream,
-    bytes: &[u8],
-    rows: &mut [StreamMatch],
-) -> (Fed, Result<(), StreamError>)
-    requires own { IsCacheOf dfa.now cache.old }
-    requires stream { IsStreamOf dfa.now stream.old }
-    ensures own { IsCacheOf dfa.now cache.new }
-    ensures stream { IsStreamOf dfa.now stream.new }
-    ensures fed { IsFedIn lines dfa.now stream.old stream.new bytes.now rows.old rows.new result.0 result.1 }
-{
-    if lines {
-        stream.feed_lines(dfa, cache, LINE_FEED, bytes, rows)
-    } else {
-        stream.feed(dfa, cache, bytes, rows)
-    }
-}
-
-/// Closes a stream whose input was read line by line or not.
-fn close_in(
-    lines: bool,
-    dfa: &DFA,
-    cache: &mut Cache,
-    stream: &mut Stream,
-    rows: &mut [StreamMatch],
-) -> (usize, Result<(), StreamError>)
-    requires own { IsCacheOf dfa.now cache.old }
-    requires stream { IsStreamOf dfa.now stream.old }
-    ensures own { IsCacheOf dfa.now cache.new }
-    ensures stream { IsStreamOf dfa.now stream.new }
-    ensures closed { IsClosedIn lines dfa.now stream.old stream.new rows.old rows.new result.0 result.1 }
-{
-    if lines {
-        stream.close_lines(dfa, cache, rows)
-    } else {
-        stream.close(dfa, cache, rows)
     }
 }
 
@@ -177,14 +129,7 @@ impl StreamSet {
         let Some(mut stream) = take_at(&mut self.streams, number) else {
             return None;
         };
-        let (fed, result) = feed_in(
-            self.lines,
-            self.regex.automaton(),
-            &mut self.cache,
-            &mut stream,
-            bytes,
-            rows,
-        );
+        let (fed, result) = self.automaton.feed(self.lines, &mut stream, bytes, rows);
         put_at(&mut self.streams, number, stream);
         Some((fed, result))
     }
@@ -201,13 +146,7 @@ impl StreamSet {
         let Some(mut stream) = take_at(&mut self.streams, number) else {
             return None;
         };
-        let (count, result) = close_in(
-            self.lines,
-            self.regex.automaton(),
-            &mut self.cache,
-            &mut stream,
-            rows,
-        );
+        let (count, result) = self.automaton.close(self.lines, &mut stream, rows);
         put_at(&mut self.streams, number, stream);
         Some((count, result))
     }

@@ -10,3 +10,4 @@ pub mod OverlapLemmas
 mod LineLemmas
 mod LineCallLemmas
 mod LineLawLemmas
+mod CapacityLemmas

@@ -5,3 +5,4 @@ pub mod Feeding
 pub mod Overlapping
 pub mod Lines
 pub mod LineCalls
+pub mod Capacities
