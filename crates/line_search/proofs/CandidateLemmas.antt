@@ -23,6 +23,7 @@ use Rattle.hir_core.specs.Means.{Means}
 use Rattle.hir_core.proofs.ForCallers.{span_forward}
 use Rattle.line_trees.specs.LineTrees.{line_tree, has_crlf, reads_feed, block_of, line_looks, HasNoFeedFrom}
 use Rattle.line_trees.specs.WordlessTrees.{wordless_tree}
+use Rattle.hir_regex.specs.Built.{IsBuilt}
 use Rattle.hir_regex.specs.Choices.{answer_from}
 use Rattle.hir_regex.specs.LooseAnswers.{IsLooseAnswer}
 use Rattle.line_trees.proofs.ForCallers.{means_in_block, means_in_line, reads_none, feeds_kept, get_dropped}
@@ -37,6 +38,7 @@ use Rattle.pattern_search.proofs.ForCallers.{alike_some, answer_is_loose}
 use Rattle.line_search.specs.Bounded.{line_pattern}
 use Rattle.line_search.specs.BoundedTrees.{IsTreeForLines}
 use Rattle.line_search.specs.Meant.{line_config}
+use Rattle.line_search.specs.declared.candidates.Reached.{Reached}
 use Rattle.line_search.specs.declared.candidates.Stop.{Stop}
 use Rattle.line_search.specs.declared.patterns.PatternOptions.{PatternOptions}
 use Rattle.line_search.specs.Candidates.{BlockRegex, IsCandidatesOf, IsLineStart, HaveNoMatch, HasMatchAt, IsStop, IsStopIfAny, IsEnd}
@@ -361,6 +363,35 @@ match_known how texts p block at start place ends it bytes starts inside from be
     ]) none
 
 -- ---- of which tree
-pub feedless_by : (x : Tree) (reported : Bool) → reported ≡ reads_feed x → not reported ≡ true → reads_feed x ≡ false
+feedless_by : (x : Tree) (reported : Bool) → reported ≡ reads_feed x → not reported ≡ true → reads_feed x ≡ false
 feedless_by x true is feedless = absurd (true≢false (sym feedless))
 feedless_by x false is feedless = sym is
+
+pub feedless_not : (x : Tree) → not (reads_feed x) ≡ true → reads_feed x ≡ false
+feedless_not x = feedless_by x (reads_feed x) refl
+
+-- ---- the line at which a search stops
+-- the offset at which a search of a block stopped, if it did, and whether a match ends there
+abbrev pub StopsAt : List Tree → List ℕ → ℕ → Option Stop → Type 0
+StopsAt xs block at o = IsStopIfAny xs block at (option_map (λ s. s.place) o)
+
+abbrev pub EndsAt : List Tree → List ℕ → ℕ → Option Stop → Type 0
+EndsAt xs block at o = IfSome o (λ s. s.is_end ≡ true → IsEnd xs block at s.place)
+
+-- the line that it reaches is the next one
+pub reached_is_next : (how : PatternOptions) (texts : List (List ℕ)) (p : BlockRegex) (block : List ℕ) (at : ℕ) (o : Option Stop) (r : Reached) →
+    (it : IsCandidatesOf how texts p) → at ≤ r.start → r.start ≤ length block → (r.start < length block → IsLineStart block r.start) →
+    ((by : IsCandidatesOf how texts p) → StopsAt (line_tree how.crlf (searched_tree p.exact by.tree) ∷ []) block at o →
+    HaveNoMatch how texts (slice_range block at r.start)) →
+    ((by : IsCandidatesOf how texts p) → EndsAt (line_tree how.crlf (searched_tree p.exact by.tree) ∷ []) block at o →
+    r.has ≡ true → HasMatchAt how texts block r.start) →
+    ((xs : List Tree) → IsBuilt xs line_settings p.regex → StopsAt xs block at o) →
+    ((xs : List Tree) → IsBuilt xs line_settings p.regex → EndsAt xs block at o) →
+    IsNextLine how texts block at r
+reached_is_next how texts p block at o r it from within starts passed has stops ends = record {
+  from = from;
+  within = within;
+  starts = starts;
+  passed = passed it (stops (line_tree how.crlf (searched_tree p.exact it.tree) ∷ []) it.built);
+  has = has it (ends (line_tree how.crlf (searched_tree p.exact it.tree) ∷ []) it.built);
+}

@@ -1,11 +1,13 @@
 //! Finds the lines of blocks that may have a match, in inputs of any script.
-ghost use Rattle.std.specs.Prelude.{◌≡◌, ◌≤◌, ◌∷◌, [], IfOk, IfSome, length};
+ghost use Rattle.std.specs.Prelude.{◌≡◌, ◌≤◌, ◌∷◌, [], IfErr, IfOk, IfSome, true, false, length, not};
 ghost use Rattle.hir_regex.specs.Built.{IsBuilt};
 ghost use Rattle.line_search.specs.BoundedTrees.{IsTreeForLines};
-ghost use Rattle.line_search.specs.Candidates.{IsCandidatesOf, IsLineStart, IsNextLine};
+ghost use Rattle.line_search.specs.Candidates.{IsCandidatesOf, IsLineStart, IsNextLine, block_regex};
+ghost use Rattle.line_trees.specs.LineTrees.{reads_feed};
 ghost use Rattle.line_search.specs.Searchers.{line_settings};
+ghost use Rattle.line_search.specs.declared.fault.Fault.TheVariants.{NoMemory};
 
-use crate::candidates::{Candidates, Reached, exact_regex, wordless_regex};
+use crate::candidates::{Candidates, Reached, block_search, exact_regex, stop_of, wordless_regex};
 use crate::fault::Fault;
 use crate::line_patterns::LinePatterns;
 use growing_regex::GrowingRegex;
@@ -22,9 +24,11 @@ const WORDLESS_SPAN: usize = 1 << 16;
 #[derive(Drop)]
 pub(crate) struct CandidateFinder<'t> {
     patterns: &'t LinePatterns<'t>,
-    exact: Option<Candidates>,
+    exact: Option<GrowingRegex>,
+    /// What is known of the exact one.
+    known: Candidates,
     /// It is built when the exact one first gives up, if that is possible.
-    wordless: Option<Candidates>,
+    wordless: Option<GrowingRegex>,
     /// Whether the exact one gave up before.
     gave_up: bool,
     /// How many more bytes are searched without looks at words.
@@ -32,16 +36,17 @@ pub(crate) struct CandidateFinder<'t> {
 }
 
 impl<'t> Model for CandidateFinder<'t> {
-    ghost use Rattle.std.specs.Prelude.{IfSome, ℕ, List};
-    ghost use Rattle.line_search.specs.Candidates.{IsCandidatesOf};
+    ghost use Rattle.std.specs.Prelude.{IfSome, ℕ, List, false};
+    ghost use Rattle.line_search.specs.Candidates.{IsCandidatesOf, block_regex};
     ghost use Rattle.line_search.specs.declared.patterns.PatternOptions.{PatternOptions};
 
     ghost Value = { PatternOptions × List (List ℕ) };
 
     ghost view = { λ f. f.patterns.now };
 
-    ghost invariant = { λ f. IfSome f.exact (IsCandidatesOf f.patterns.now.0 f.patterns.now.1)
-        × IfSome f.wordless (IsCandidatesOf f.patterns.now.0 f.patterns.now.1) };
+    ghost invariant = { λ f. IfSome f.exact (λ g. IsCandidatesOf f.patterns.now.0 f.patterns.now.1 (block_regex g.pair f.known))
+        × IfSome f.wordless (λ g. IsCandidatesOf f.patterns.now.0 f.patterns.now.1
+        (block_regex g.pair (record { exact = false; feedless = false; crlf = f.patterns.now.0.crlf }))) };
 }
 
 /// A search of blocks for the tree of the patterns, over a search of lines for it. If there is none, each line is searched by itself.
@@ -50,24 +55,26 @@ fn exact_candidates(
     patterns: &LinePatterns<'_>,
     tree: &Hir,
     lines: &GrowingRegex,
-) -> Option<Candidates>
+) -> Option<GrowingRegex>
     requires tree { IsTreeForLines patterns.now.0 patterns.now.1 tree.now }
     requires lines { IsBuilt (tree.now ∷ []) line_settings lines.now.pair }
-    ensures { IfSome result (IsCandidatesOf patterns.now.0 patterns.now.1) }
+    ensures { IfSome result (λ g. IsCandidatesOf patterns.now.0 patterns.now.1
+        (block_regex g.pair (record { exact = true; feedless = not (reads_feed tree.now); crlf = patterns.now.0.crlf }))) }
 {
     let crlf = patterns.how().crlf;
     let Ok(regex) = exact_regex(alloc, tree, lines, crlf) else {
         return None;
     };
-    let Ok(candidates) = Candidates::new(alloc, regex, tree, true, crlf) else {
+    let Ok(candidates) = block_search(alloc, regex, tree) else {
         return None;
     };
     candidates
 }
 
 /// A search of blocks for the tree of the patterns without its looks at words, if there is one.
-fn wordless_candidates(alloc: Global, patterns: &LinePatterns<'_>) -> Option<Candidates>
-    ensures { IfSome result (IsCandidatesOf patterns.now.0 patterns.now.1) }
+fn wordless_candidates(alloc: Global, patterns: &LinePatterns<'_>) -> Option<GrowingRegex>
+    ensures { IfSome result (λ g. IsCandidatesOf patterns.now.0 patterns.now.1
+        (block_regex g.pair (record { exact = false; feedless = false; crlf = patterns.now.0.crlf }))) }
 {
     let crlf = patterns.how().crlf;
     let Ok(tree) = patterns.tree(false) else {
@@ -76,24 +83,24 @@ fn wordless_candidates(alloc: Global, patterns: &LinePatterns<'_>) -> Option<Can
     let Ok(regex) = wordless_regex(alloc, tree, crlf) else {
         return None;
     };
-    let Ok(candidates) = Candidates::new(alloc, regex, tree, false, crlf) else {
+    let Ok(candidates) = block_search(alloc, regex, tree) else {
         return None;
     };
     candidates
 }
 
 /// How often the caches of a search were cleared, if there is one.
-fn clears_of(candidates: &Option<Candidates>) -> usize {
-    match candidates {
-        Some(candidates) => candidates.search.clear_count(),
+fn clears_of(search: &Option<GrowingRegex>) -> usize {
+    match search {
+        Some(search) => search.clear_count(),
         None => 0,
     }
 }
 
 /// The bytes that the caches of a search are estimated to need, if there is one.
-fn usage_of(candidates: &Option<Candidates>) -> usize {
-    match candidates {
-        Some(candidates) => candidates.search.memory_usage(),
+fn usage_of(search: &Option<GrowingRegex>) -> usize {
+    match search {
+        Some(search) => search.memory_usage(),
         None => 0,
     }
 }
@@ -113,6 +120,7 @@ impl<'t> CandidateFinder<'t> {
         CandidateFinder {
             patterns,
             exact: exact_candidates(alloc, patterns, tree, lines),
+            known: Candidates::of(tree, true, patterns.how().crlf),
             wordless: None,
             gave_up: false,
             wordless_left: 0,
@@ -135,11 +143,18 @@ impl<'t> CandidateFinder<'t> {
         requires starts { IsLineStart block.now at }
         ensures same { self.new ≡ self.old }
         ensures next { IfOk result (IsNextLine self.old.0 self.old.1 block.now at) }
+        ensures refused { IfErr result (λ e. e ≡ NoMemory) }
     {
         let Some(wordless) = &mut self.wordless else {
             return Ok(Reached::here(at));
         };
-        let reached = wordless.search_block(block, at)?;
+        let found = wordless.find_earliest_end(block, at);
+        let stop = match stop_of(at, found) {
+            Ok(stop) => stop,
+            Err(e) => return Err(e),
+        };
+        let known = Candidates::without_words(self.patterns.how().crlf);
+        let reached = known.reached(block, at, stop);
         Ok(reached)
     }
 
@@ -166,7 +181,7 @@ impl<'t> CandidateFinder<'t> {
     /// Returns the start of the next line of a block that may have a match, or the end of the block if none may. It also returns whether
     /// that line is known to have a match. The offset `at` is the start of a line. No line from there up to the returned offset has a
     /// match.
-    pub(crate) fn next_candidate(
+    pub(crate) fn search_block(
         &mut self,
         alloc: Global,
         block: &[u8],
@@ -176,18 +191,27 @@ impl<'t> CandidateFinder<'t> {
         requires starts { IsLineStart block.now at }
         ensures same { self.new ≡ self.old }
         ensures next { IfOk result (IsNextLine self.old.0 self.old.1 block.now at) }
+        ensures refused { IfErr result (λ e. e ≡ NoMemory) }
     {
         if self.wordless_left == 0 {
             let Some(exact) = &mut self.exact else {
                 return Ok(Reached::here(at));
             };
-            let reached = exact.search_block(block, at)?;
+            let found = exact.find_earliest_end(block, at);
+            let stop = match stop_of(at, found) {
+                Ok(stop) => stop,
+                Err(e) => return Err(e),
+            };
+            let reached = self.known.reached(block, at, stop);
             if !reached.gave_up {
                 return Ok(reached);
             }
             self.begin_wordless(alloc);
         }
-        let reached = self.reach_wordless(block, at)?;
+        let reached = match self.reach_wordless(block, at) {
+            Ok(reached) => reached,
+            Err(e) => return Err(e),
+        };
         self.count_wordless(reached.passed);
         Ok(reached)
     }

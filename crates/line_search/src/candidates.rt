@@ -1,16 +1,17 @@
 //! The lines of a block that may have a match.
-ghost use Rattle.std.specs.Prelude.{◌≡◌, ◌==◌, ◌&&◌, ◌||◌, ◌≤◌, ◌<◌, ◌-◌, ◌∷◌, ℕ, List, [], length, map, option_map, slice_get};
+ghost use Rattle.std.specs.Prelude.{◌≡◌, ◌==◌, ◌&&◌, ◌||◌, ◌≤◌, ◌<◌, ◌-◌, ◌∷◌, ℕ, Bool, List, [], length, map, option_map, slice_get};
 ghost use Rattle.std.specs.Prelude.{is_some, not, slice_range};
 ghost use Rattle.std.specs.Prelude.{true, Option, Some, IfErr, IfOk, IfSome, false};
 ghost use Rattle.hir_core.specs.Tree.{Tree};
-ghost use Rattle.line_trees.specs.LineTrees.{line_tree, has_crlf, HasNoFeedFrom};
+ghost use Rattle.regex_pair.specs.Pairs.{Pair};
+ghost use Rattle.line_trees.specs.LineTrees.{line_tree, has_crlf, reads_feed, HasNoFeedFrom};
 ghost use Rattle.hir_regex.specs.Built.{IsBuilt, FailsBuild};
 ghost use Rattle.ucd_perl.specs.Perl.{is_word_char};
 ghost use Rattle.growing_regex.specs.Earliest.{IsEarliestEnd, IsEarliestError, looks_by};
 ghost use Rattle.line_search.specs.BoundedTrees.{IsTreeForLines};
 ghost use Rattle.line_search.specs.declared.patterns.PatternOptions.{PatternOptions};
 ghost use Rattle.line_search.specs.Candidates.{IsCandidatesOf, IsLineStart, HaveNoMatch, HasMatchAt, IsStop, IsStopIfAny};
-ghost use Rattle.line_search.specs.Candidates.{IsEnd, searched_tree, StopsInLine};
+ghost use Rattle.line_search.specs.Candidates.{IsEnd, block_regex, searched_tree, StopsInLine};
 ghost use Rattle.line_search.specs.Searchers.{line_settings};
 ghost use Rattle.line_search.specs.declared.fault.Fault.TheVariants.{NoMemory};
 
@@ -26,22 +27,20 @@ use line_trees::{has_crlf, line_tree, reads_feed, wordless_tree};
 use regex_pair::regex::Regex;
 use search_types::{MatchError, MatchErrorKind};
 use std::alloc::{AllocError, Global};
-use std::marker::Model;
 use std::sync::Arc;
 
-/// A regex that searches blocks of lines for patterns, with its caches.
+/// What is known of a search of blocks, by which a line at which it stops may be known to have a match.
 ///
-/// If a line has a match, then each block that contains the line has one there. So the lines before the earliest end of a match in the
-/// block have none. A match in the block need not be a match in a line, since it may extend over the ends of lines. It is one if the
-/// tree consumes no line feed and no carriage return belongs to the end of a line. If a carriage return does belong to it, a match in the
-/// block may consume that byte, so each such line is searched by itself.
+/// A regex searches blocks of lines for patterns. If a line has a match, then each block that contains the line has one there. So the lines
+/// before the earliest end of a match in the block have none. A match in the block need not be a match in a line, since it may extend over the
+/// ends of lines. It is one if the tree consumes no line feed and no carriage return belongs to the end of a line. If a carriage return does
+/// belong to it, a match in the block may consume that byte, so each such line is searched by itself.
 ///
 /// The regex is built from the tree of the patterns, or from that tree without its looks at words by characters. With such looks a search
 /// gives up at each byte above ASCII. Without them it doesn't, but a line with a match need have none of the patterns. If the tree is its
 /// own line tree, the regex is shared with the search of lines.
-#[derive(Drop)]
+#[derive(Clone, Copy)]
 pub(crate) struct Candidates {
-    pub(crate) search: GrowingRegex,
     /// Whether the tree of the patterns is searched for as it is.
     exact: bool,
     /// Whether the tree consumes no line feed.
@@ -52,7 +51,7 @@ pub(crate) struct Candidates {
 
 /// Where the search of a block stops.
 #[derive(Clone, Copy)]
-struct Stop {
+pub(crate) struct Stop {
     place: usize,
     /// Whether a match ends there. Otherwise the search gives up there.
     is_end: bool,
@@ -90,14 +89,6 @@ impl Reached {
             gave_up: false,
         }
     }
-}
-
-impl Model for Candidates {
-    ghost use Rattle.line_search.specs.Candidates.{BlockRegex};
-
-    ghost Value = { BlockRegex };
-
-    ghost view = { λ s. record { regex = s.search.pair; exact = s.exact; feedless = s.feedless; crlf = s.crlf } };
 }
 
 /// The offset right after the last line feed between both offsets, or the first offset if there is none.
@@ -148,7 +139,10 @@ fn stop_at(end: Option<usize>) -> Option<Stop>
 /// Where the search of a block from `at` on stops, given what it returned. It stops at the least end of the matches in the block that start
 /// at this offset or later. Or it stops at a byte at which it gives up, before which no such match ends. If there is no such match, it stops
 /// nowhere.
-fn stop_of(at: usize, found: Result<Option<usize>, MatchError>) -> Result<Option<Stop>, Fault>
+pub(crate) fn stop_of(
+    at: usize,
+    found: Result<Option<usize>, MatchError>,
+) -> Result<Option<Stop>, Fault>
     ensures reported { (xs : List Tree) (block : List ℕ) →
         IfOk found (λ o. IsEarliestEnd xs (looks_by is_word_char line_settings block) block at (length block) o) →
         IfErr found (λ e. IsEarliestError is_word_char xs line_settings block at e) →
@@ -227,33 +221,50 @@ pub(crate) fn wordless_regex(
     }
 }
 
+/// A search of blocks of lines for the tree of the patterns, or for that tree without its looks at words by characters, with the regex that
+/// is built for this. It returns none if the tree has a look-around assertion about carriage returns, since the laws about blocks don't cover
+/// such a tree.
+pub(crate) fn block_search(
+    alloc: Global,
+    regex: Arc<Regex>,
+    tree: &Hir,
+) -> Result<Option<GrowingRegex>, AllocError>
+    ensures some { IfOk result (λ o. is_some o ≡ not (has_crlf tree.now)) }
+    ensures candidates { (how : PatternOptions) (texts : List (List ℕ)) (exact feedless : Bool) → IsTreeForLines how texts tree.now →
+        (feedless ≡ true → reads_feed tree.now ≡ false) →
+        IsBuilt (line_tree how.crlf (searched_tree exact tree.now) ∷ []) line_settings regex.value →
+        IfOk result (λ o. IfSome o (λ g. IsCandidatesOf how texts
+        (block_regex g.pair (record { exact = exact; feedless = feedless; crlf = how.crlf })))) }
+{
+    if has_crlf(tree) {
+        return Ok(None);
+    }
+    let search = GrowingRegex::new(alloc, regex, LARGEST)?;
+    Ok(Some(search))
+}
+
 impl Candidates {
-    /// A search of blocks of lines for the tree of the patterns, or for that tree without its looks at words by characters, with the regex
-    /// that is built for this. It returns none if the tree has a look-around assertion about carriage returns, since the laws about blocks
-    /// don't cover such a tree.
-    pub(crate) fn new(
-        alloc: Global,
-        regex: Arc<Regex>,
-        tree: &Hir,
-        exact: bool,
-        crlf: bool,
-    ) -> Result<Option<Candidates>, AllocError>
-        ensures some { IfOk result (λ o. is_some o ≡ not (has_crlf tree.now)) }
-        ensures candidates { (how : PatternOptions) (texts : List (List ℕ)) → how.crlf ≡ crlf → IsTreeForLines how texts tree.now →
-            IsBuilt (line_tree crlf (searched_tree exact tree.now) ∷ []) line_settings regex.value →
-            IfOk result (λ o. IfSome o (IsCandidatesOf how texts)) }
+    /// What is known of a search for this tree as it is, or without its looks at words by characters.
+    pub(crate) fn of(tree: &Hir, exact: bool, crlf: bool) -> Candidates
+        ensures { result ≡ record { exact = exact; feedless = not (reads_feed tree.now); crlf = crlf } }
     {
-        if has_crlf(tree) {
-            return Ok(None);
-        }
         let feedless = !reads_feed(tree);
-        let search = GrowingRegex::new(alloc, regex, LARGEST)?;
-        Ok(Some(Candidates {
-            search,
+        Candidates {
             exact,
             feedless,
             crlf,
-        }))
+        }
+    }
+
+    /// What is known of any search without looks at words by characters.
+    pub(crate) fn without_words(crlf: bool) -> Candidates
+        ensures { result ≡ record { exact = false; feedless = false; crlf = crlf } }
+    {
+        Candidates {
+            exact: false,
+            feedless: false,
+            crlf,
+        }
     }
 
     /// Whether the line that starts at `start` is known to have a match, if the search started at `at`. It has one if a match ends in it
@@ -266,8 +277,8 @@ impl Candidates {
         !self.crlf && self.exact && stop.is_end && (self.feedless || start == at)
     }
 
-    /// Returns the start of the next line that may have a match, or the end of the block if none may. The offset `at` is the start of a
-    /// line. None of the lines from `at` up to the returned offset has a match.
+    /// Returns the start of the next line that may have a match, or the end of the block if none may, by where the search of the block from
+    /// `at` on stopped. The offset `at` is the start of a line. None of the lines from `at` up to the returned offset has a match.
     ///
     /// Unless the end of the block is returned, the search stopped in the line that starts at the returned offset, or at the line feed
     /// before it. It stopped at the least end of the matches in the block from `at` on. Or it stopped at a byte at which it gives up, such
@@ -275,42 +286,38 @@ impl Candidates {
     ///
     /// If that match ends in the line that starts at `at`, or if the tree consumes no line feed, it is a match of the line. If a carriage
     /// return belongs to the end of a line, it need not be one.
-    pub(crate) fn search_block(&mut self, block: &[u8], at: usize) -> Result<Reached, Fault>
+    pub(crate) fn reached(&self, block: &[u8], at: usize, stop: Option<Stop>) -> Reached
         requires within { at ≤ length block.now }
         requires starts { IsLineStart block.now at }
-        ensures same { self.new ≡ self.old }
-        ensures from { IfOk result (λ r. at ≤ r.start) }
-        ensures within { IfOk result (λ r. r.start ≤ length block.now) }
-        ensures starts { IfOk result (λ r. r.start < length block.now → IsLineStart block.now r.start) }
-        ensures passed { (how : PatternOptions) (texts : List (List ℕ)) → IsCandidatesOf how texts self.old →
-            IfOk result (λ r. HaveNoMatch how texts (slice_range block.now at r.start)) }
-        ensures has { (how : PatternOptions) (texts : List (List ℕ)) → IsCandidatesOf how texts self.old →
-            IfOk result (λ r. r.has ≡ true → HasMatchAt how texts block.now r.start) }
-        ensures stops { (xs : List Tree) → IsBuilt xs line_settings self.old.regex →
-            IfOk result (λ r. r.start < length block.now → StopsInLine xs block.now at r.start) }
-        ensures refused { IfErr result (λ e. e ≡ NoMemory) }
+        ensures from { at ≤ result.start }
+        ensures within { result.start ≤ length block.now }
+        ensures starts { result.start < length block.now → IsLineStart block.now result.start }
+        ensures passed { (how : PatternOptions) (texts : List (List ℕ)) (re : Pair) (it : IsCandidatesOf how texts (block_regex re self.now)) →
+            IsStopIfAny (line_tree how.crlf (searched_tree self.now.exact it.tree) ∷ []) block.now at (option_map (λ s. s.place) stop) →
+            HaveNoMatch how texts (slice_range block.now at result.start) }
+        ensures has { (how : PatternOptions) (texts : List (List ℕ)) (re : Pair) (it : IsCandidatesOf how texts (block_regex re self.now)) →
+            IfSome stop (λ s. s.is_end ≡ true →
+            IsEnd (line_tree how.crlf (searched_tree self.now.exact it.tree) ∷ []) block.now at s.place) →
+            result.has ≡ true → HasMatchAt how texts block.now result.start }
+        ensures stops { (xs : List Tree) → IsStopIfAny xs block.now at (option_map (λ s. s.place) stop) →
+            result.start < length block.now → StopsInLine xs block.now at result.start }
     {
         see_bytes(block);
-        let found = self.search.find_earliest_end(block, at);
-        let stop = match stop_of(at, found) {
-            Ok(stop) => stop,
-            Err(e) => return Err(e),
-        };
         match stop {
-            None => Ok(Reached {
+            None => Reached {
                 start: block.len(),
                 has: false,
                 passed: block.len() - at,
                 gave_up: false,
-            }),
+            },
             Some(stop) => {
                 let start = line_start(block, at, stop.place);
-                Ok(Reached {
+                Reached {
                     start,
                     has: self.is_known(stop, start, at),
                     passed: stop.place.saturating_sub(at),
                     gave_up: !stop.is_end,
-                })
+                }
             }
         }
     }

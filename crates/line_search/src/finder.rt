@@ -207,7 +207,7 @@ impl<'t> Finder<'t> {
         ensures next { IfOk result (IsNextLine self.old.how self.old.texts block.now at) }
     {
         let end = line_end(block, at);
-        let reached = self.candidates.next_candidate(alloc, &block[..end], at)?;
+        let reached = self.candidates.search_block(alloc, &block[..end], at)?;
         if reached.start < end {
             return Ok(reached);
         }
@@ -231,7 +231,7 @@ impl<'t> Finder<'t> {
             let reached = self.search_line(alloc, block, at)?;
             return Ok(reached);
         }
-        let reached = self.candidates.next_candidate(alloc, block, at)?;
+        let reached = self.candidates.search_block(alloc, block, at)?;
         self.note_blocks(reached.passed);
         Ok(reached)
     }

@@ -1,8 +1,13 @@
-use Rattle.std.proofs.Common.{ℕ, List, Option, sym, subst}
+use Rattle.std.proofs.Common.{◌≡◌, ◌∙◌, ℕ, List, Option, ap, false, refl, sym, subst}
 use Rattle.std.specs.Prelude.{IfSome}
-use Rattle.line_search.specs.Candidates.{BlockRegex, IsCandidatesOf, IsNextLine}
+use Rattle.ucd_perl.specs.Perl.{is_word_char}
+use Rattle.pattern_text.specs.Words.{word_set}
+use Rattle.growing_regex.specs.Growing.{Growing}
+use Rattle.line_search.specs.Candidates.{IsCandidatesOf, IsNextLine, block_regex}
+use Rattle.line_search.specs.Searchers.{line_settings}
+use Rattle.line_search.specs.declared.candidates.Candidates.{Candidates}
 use Rattle.line_search.specs.declared.patterns.PatternOptions.{PatternOptions}
-use Rattle.line_search.proofs.CandidateLemmas.{here_is_next}
+use Rattle.line_search.proofs.CandidateLemmas.{here_is_next, reached_is_next}
 use Rattle.line_search.proofs.candidate_finder.CandidateFinder.reach_wordless.Goals as goal
 
 pub returns-in_default-clause-next : goal.returns-in_default-clause-next
@@ -12,14 +17,20 @@ returns-in_default-clause-next c =
 
 pub returns-clause-next : goal.returns-clause-next
 returns-clause-next c =
-    let it : IsCandidatesOf c.self.inside.patterns.now.0 c.self.inside.patterns.now.1 c.in-Some.wordless =
-    subst (λ (o : Option BlockRegex). IfSome o (IsCandidatesOf c.self.inside.patterns.now.0 c.self.inside.patterns.now.1))
+    let how = c.self.inside.patterns.now.0 in
+    let texts = c.self.inside.patterns.now.1 in
+    let it : IsCandidatesOf how texts (block_regex c.in-Some.wordless.pair (record { exact = false; feedless = false; crlf = how.crlf })) =
+    subst (λ (o : Option Growing). IfSome o (λ g. IsCandidatesOf how texts (block_regex g.pair (record { exact = false; feedless = false; crlf = how.crlf }))))
     c.in-Some.is c.self.invariant.1 in
-    subst (λ (v : PatternOptions × List (List ℕ)). IsNextLine v.0 v.1 c.args.block.now c.args.at c.in_ok-reached.reached) c.self.view_is
-    (record {
-      from = c.in_ok-reached.ensures.from;
-      within = c.in_ok-reached.ensures.within;
-      starts = c.in_ok-reached.ensures.starts;
-      passed = c.in_ok-reached.ensures.passed c.self.inside.patterns.now.0 c.self.inside.patterns.now.1 it;
-      has = c.in_ok-reached.ensures.has c.self.inside.patterns.now.0 c.self.inside.patterns.now.1 it;
-    })
+    let same : record { exact = false; feedless = false; crlf = how.crlf } ≡ c.without_words-known.result =
+    ap (λ v. record { exact = false; feedless = false; crlf = v }) (ap (λ (h : PatternOptions). h.crlf) (sym c.how.ensures)) ∙ sym c.without_words-known.ensures in
+    subst (λ (v : PatternOptions × List (List ℕ)). IsNextLine v.0 v.1 c.args.block.now c.args.at c.reached-reached.result) c.self.view_is
+    (reached_is_next how texts (block_regex c.in-Some.wordless.pair c.without_words-known.result) c.args.block.now c.args.at c.in-Ok.stop
+    c.reached-reached.result
+    (subst (λ (k : Candidates). IsCandidatesOf how texts (block_regex c.in-Some.wordless.pair k)) same it) c.reached-reached.ensures.from c.reached-reached.ensures.within c.reached-reached.ensures.starts
+    (c.reached-reached.ensures.passed how texts c.in-Some.wordless.pair) (c.reached-reached.ensures.has how texts c.in-Some.wordless.pair)
+    (λ xs built. c.in-Ok.ensures.reported xs c.args.block.now
+    (c.find_earliest_end-found.ensures.found xs line_settings built refl refl is_word_char word_set)
+    (c.find_earliest_end-found.ensures.refused xs line_settings built refl refl is_word_char word_set))
+    (λ xs built. c.in-Ok.ensures.ends xs c.args.block.now
+    (c.find_earliest_end-found.ensures.found xs line_settings built refl refl is_word_char word_set)))

@@ -6,8 +6,8 @@ use Rattle.line_search.specs.declared.patterns.PatternOptions.{PatternOptions}
 use Rattle.line_search.proofs.PartLemmas.{next_in_part, next_after_part}
 use Rattle.line_search.proofs.finder.Finder.search_line.Goals as goal
 
-pub next_candidate-requires-clause-starts : goal.next_candidate-requires-clause-starts
-next_candidate-requires-clause-starts c some =
+pub search_block-requires-clause-starts : goal.search_block-requires-clause-starts
+search_block-requires-clause-starts c some =
     get_taken c.line_end-end.result c.args.block.now (c.args.at - 1) (omega (arith, some, c.line_end-end.ensures.from))
     ∙ c.requires.starts some
 
