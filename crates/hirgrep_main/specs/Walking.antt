@@ -61,8 +61,8 @@ listed_directories true Reject = Recurse
 listed_directories true Recurse = Recurse
 listed_directories true Skip = Skip
 
-abbrev pub with_folders : Asked → Bool → Asked
-with_folders asked lists = record asked { directories = listed_directories lists asked.directories }
+abbrev pub with_listed_folders : Asked → Bool → Asked
+with_listed_folders asked lists = record asked { directories = listed_directories lists asked.directories }
 
 -- What is searched if no argument names anything: the current folder, or standard input.
 abbrev pub default_paths : Directories → List (List ℕ)
@@ -88,7 +88,7 @@ Comes asked lists (Ok NamedDevice) old new =
 Comes asked lists (Err e) old new = new ≡ with_failure old
 
 -- What comes of any argument. Nothing comes of one that the options leave out, and `-` is standard input.
-pub record IsSearched (asked : Asked) (s : Selection) (bare : Bool) (path : List ℕ) (named : Result Named Error) (old new : Outcome) : Type 0 where
+pub record IsHandled (asked : Asked) (s : Selection) (bare : Bool) (path : List ℕ) (named : Result Named Error) (old new : Outcome) : Type 0 where
   pub input : path ≡ codes "-" → named ≡ Ok Input
   pub left : is_left_out s bare named path ≡ true → new ≡ old
   pub comes : is_left_out s bare named path ≡ false → Comes asked s.lists named old new
@@ -96,19 +96,19 @@ pub record IsSearched (asked : Asked) (s : Selection) (bare : Bool) (path : List
 
 -- What comes of arguments, one after the other, up to the last outcome. They aren't searched further if the search has ended after one of
 -- them, or if memory ran out (`done` is false), before an argument was searched or meanwhile.
-pub data AreSearched (asked : Asked) (s : Selection) (bare done : Bool) (last : Outcome) : List (List ℕ) → Outcome → Type 0 where
-  all : done ≡ true → AreSearched asked s bare done last [] last
+pub data AreHandled (asked : Asked) (s : Selection) (bare done : Bool) (last : Outcome) : List (List ℕ) → Outcome → Type 0 where
+  all : done ≡ true → AreHandled asked s bare done last [] last
   next : (path : List ℕ) (rest : List (List ℕ)) (named : Result Named Error) (old new : Outcome) →
-      IsSearched asked s bare path named old new → AreSearched asked s bare done last rest new →
-      AreSearched asked s bare done last (path ∷ rest) old
+      IsHandled asked s bare path named old new → AreHandled asked s bare done last rest new →
+      AreHandled asked s bare done last (path ∷ rest) old
   ended : (path : List ℕ) (rest : List (List ℕ)) (named : Result Named Error) (old : Outcome) →
-      IsSearched asked s bare path named old last → last.ended ≡ true → done ≡ true → AreSearched asked s bare done last (path ∷ rest) old
+      IsHandled asked s bare path named old last → last.ended ≡ true → done ≡ true → AreHandled asked s bare done last (path ∷ rest) old
   failed : (path : List ℕ) (rest : List (List ℕ)) (named : Result Named Error) (old : Outcome) → done ≡ false →
-      (last ≡ old) ⊎ IsSearched asked s bare path named old last → AreSearched asked s bare done last (path ∷ rest) old
+      (last ≡ old) ⊎ IsHandled asked s bare path named old last → AreHandled asked s bare done last (path ∷ rest) old
 
 -- What comes of the names that a command line gives, and is printed after them.
 pub record SearchesNames (asked : Asked) (s : Selection) (patterns names : List (List ℕ)) (done : Bool) (old new : Outcome) : Type 0 where
   pub last : Outcome
-  pub each : AreSearched (with_folders asked s.lists) s (length names == 0) done last
-      (searched_paths asked (with_folders asked s.lists).directories s.lists patterns names) old
+  pub each : AreHandled (with_listed_folders asked s.lists) s (length names == 0) done last
+      (searched_paths asked (with_listed_folders asked s.lists).directories s.lists patterns names) old
   pub end : prints_summary asked ≡ false → new ≡ last

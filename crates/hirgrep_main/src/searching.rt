@@ -9,7 +9,7 @@ ghost use Rattle.grep_cli.specs.declared.files.walking.Kind.TheVariants.{Link, D
 ghost use Rattle.grep_cli.specs.Selecting.{depth_in, enters, selection, skips_found};
 ghost use Rattle.grep_cli.specs.Entries.{is_folder};
 ghost use Rattle.hirgrep_main.specs.Walking.{SearchesNames, Tries, default_paths, is_left_out, leaves_out, may_be_several, named_by};
-ghost use Rattle.hirgrep_main.specs.Walking.{searched_paths, with_folders};
+ghost use Rattle.hirgrep_main.specs.Walking.{searched_paths, with_listed_folders};
 ghost use Rattle.hirgrep_main.specs.Outcomes.{Continues, with_failure};
 
 use crate::files::opening::{search_file, search_input};
@@ -317,7 +317,7 @@ fn task_of<'a>(rt: &HostRuntime, asked: &'a Asked<'a>, files: Files<'a>) -> Task
 
 /// What is asked for. If the names of files are printed, folders are searched too, unless these are skipped.
 fn with_folders<'a>(asked: &Asked<'a>, lists: bool) -> Asked<'a>
-    ensures { result ≡ with_folders asked.now lists }
+    ensures { result ≡ with_listed_folders asked.now lists }
 {
     if !lists || asked.directories == Directories::Skip {
         return *asked;

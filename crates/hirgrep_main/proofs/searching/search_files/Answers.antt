@@ -2,7 +2,7 @@ use Rattle.std.proofs.Common.{◌≡◌, ◌∙◌, ◌==◌, length, subst, ari
 use Rattle.grep_cli.specs.Selecting.{selection}
 use Rattle.hirgrep_main.specs.declared.results.outcome.Outcome.{Outcome}
 use Rattle.hirgrep_main.specs.declared.searching.Named.TheVariants.{Input, File, Folder, Device}
-use Rattle.hirgrep_main.specs.Walking.{AreSearched, IsSearched}
+use Rattle.hirgrep_main.specs.Walking.{AreHandled, IsHandled}
 use Rattle.hirgrep_main.proofs.OutcomeLemmas.{continues_as, continues_on}
 use Rattle.hirgrep_main.proofs.WalkingLemmas.{all_came, continues_failed, ends, fails, if_done, if_failed, is_chosen, is_known, is_left, leads_on, names_searched, none_came}
 use Rattle.hirgrep_main.proofs.searching.search_files.Goals as goal
@@ -29,7 +29,7 @@ loop-path-preserved c =
     let named = c.named_at-named.result in
     let input = c.named_at-named.ensures in
     let chosen = sym c.in_ok-is_left_out.ensures ∙ c.if-branch.false in
-    let is : IsSearched asked s bare _ named c.loop-path.outcome c.match-named.outcome =
+    let is : IsHandled asked s bare _ named c.loop-path.outcome c.match-named.outcome =
     elim c.match-named.branch [
       | in-Ok-Input w ↦ is_known asked s bare _ named w.in-Ok-Input.field-0 Input c.loop-path.outcome c.match-named.outcome w.search_input.new.outcome input chosen w.in-Ok-Input.is (rw w.in-Ok-Input.is at w.in-Ok-Input.field-0-is)
           w.search_input.ensures.tried w.search_input.ensures.continues w.outcome-is
@@ -86,7 +86,7 @@ returns-in_err-search_directory-in-Ok-Folder-clause-each c =
     let s = selection c.task_of-task.result.selection.now in
     let bare = c.task_of-task.result.bare in
     let named = c.named_at-named.result in
-    let is : IsSearched asked s bare _ named c.loop-path.outcome c.search_directory.new.outcome =
+    let is : IsHandled asked s bare _ named c.loop-path.outcome c.search_directory.new.outcome =
     is_known asked s bare _ named c.in-Ok-Folder.field-0 Folder c.loop-path.outcome c.search_directory.new.outcome c.search_directory.new.outcome
     c.named_at-named.ensures (sym c.in_ok-is_left_out.ensures ∙ c.if-branch.false) c.in-Ok-Folder.is (rw c.in-Ok-Folder.is at c.in-Ok-Folder.field-0-is)
     (c.search_directory.ensures.rejected, c.search_directory.ensures.skipped) c.search_directory.ensures.continues refl in (
@@ -107,17 +107,17 @@ returns-clause-each c =
     let asked = c.task_of-task.result.asked.now in
     let s = selection c.task_of-task.result.selection.now in
     let bare = c.task_of-task.result.bare in
-    let came : AreSearched asked s bare true c.loop-path-test.outcome (map (λ p. p.now) c.paths_of-paths.result.now) c.args.outcome.now =
+    let came : AreHandled asked s bare true c.loop-path-test.outcome (map (λ p. p.now) c.paths_of-paths.result.now) c.args.outcome.now =
     elim c.loop-path-test.branch [
       | else-loop-path-test w ↦
-          subst (λ o. AreSearched asked s bare true o (map (λ p. p.now) c.paths_of-paths.result.now) c.args.outcome.now) (sym w.outcome-is)
+          subst (λ o. AreHandled asked s bare true o (map (λ p. p.now) c.paths_of-paths.result.now) c.args.outcome.now) (sym w.outcome-is)
           (all_came asked s bare c.paths_of-paths.result.now c.args.outcome.now c.loop-path.path-index c.loop-path.outcome
           (omega (arith, w.loop-path-test.false)) c.loop-path.invariant.rest)
       | then-loop-path-test+in_ok-is_left_out+else-branch+then-outcome w ↦
           let named = w.named_at-named.result in
           let input = w.named_at-named.ensures in
           let chosen = sym w.in_ok-is_left_out.ensures ∙ w.if-branch.false in
-          let is : IsSearched asked s bare _ named c.loop-path.outcome c.loop-path-test.outcome =
+          let is : IsHandled asked s bare _ named c.loop-path.outcome c.loop-path-test.outcome =
           elim w.match-named.branch [
             | in-Ok-Input v ↦ is_known asked s bare _ named v.in-Ok-Input.field-0 Input c.loop-path.outcome c.loop-path-test.outcome v.search_input.new.outcome input chosen v.in-Ok-Input.is (rw v.in-Ok-Input.is at v.in-Ok-Input.field-0-is)
                 v.search_input.ensures.tried v.search_input.ensures.continues (w.outcome-is ∙ v.outcome-is)
