@@ -1,5 +1,5 @@
 //! Searches files, one after the other.
-ghost use Rattle.std.specs.Prelude.{◌≡◌, [], true, false, Result, Ok, IfErr, IfOk, OnOk, codes, map, string_bytes};
+ghost use Rattle.std.specs.Prelude.{◌≡◌, ◌==◌, Bool, true, false, Result, Ok, IfErr, IfOk, OnOk, codes, length, map, string_bytes};
 ghost use Rattle.grep_cli.specs.Flags.{reads_found, reads_named};
 ghost use Rattle.hirgrep_main.specs.Decisions.{selects_none};
 ghost use Rattle.hirgrep_main.specs.Readings.{prints_summary};
@@ -8,7 +8,8 @@ ghost use Rattle.hirgrep_main.specs.declared.searching.Named.TheVariants.{Input,
 ghost use Rattle.grep_cli.specs.declared.files.walking.Kind.TheVariants.{Link, Device as FoundDevice, File as FoundFile, Folder as FoundFolder};
 ghost use Rattle.grep_cli.specs.Selecting.{depth_in, enters, selection, skips_found};
 ghost use Rattle.grep_cli.specs.Entries.{is_folder};
-ghost use Rattle.hirgrep_main.specs.Walking.{Tries, is_left_out, leaves_out, may_be_several, named_by};
+ghost use Rattle.hirgrep_main.specs.Walking.{SearchesNames, Tries, default_paths, is_left_out, leaves_out, may_be_several, named_by};
+ghost use Rattle.hirgrep_main.specs.Walking.{searched_paths, with_listed_folders};
 ghost use Rattle.hirgrep_main.specs.Outcomes.{Continues, with_failure};
 
 use crate::files::opening::{search_file, search_input};
@@ -283,44 +284,6 @@ fn is_left_out(
     }
 }
 
-/// Searches what an argument names, unless the options leave it out, or records that it can't be searched.
-fn search_as(
-    rt: &HostRuntime,
-    finder: &mut Finder<'_>,
-    task: Task<'_>,
-    outcome: &mut Outcome,
-    path: &str,
-    named: io::Result<Named>,
-) -> Result<(), AllocError>
-    ensures left { is_left_out (selection task.entry.selection.now) task.entry.bare named path.now ≡ true → outcome.new ≡ outcome.old }
-    ensures unknown { IfErr named (λ _. OnOk result (outcome.new ≡ with_failure outcome.old)) }
-    ensures rejected { is_left_out (selection task.entry.selection.now) task.entry.bare named path.now ≡ false
-        → named ≡ Ok Folder → task.entry.asked.now.directories ≡ Reject → OnOk result (outcome.new ≡ with_failure outcome.old) }
-    ensures skipped { named ≡ Ok Folder → task.entry.asked.now.directories ≡ Skip → outcome.new ≡ outcome.old }
-    ensures device { named ≡ Ok Device → reads_named task.entry.asked.now.devices ≡ false → outcome.new ≡ outcome.old }
-    ensures read { is_left_out (selection task.entry.selection.now) task.entry.bare named path.now ≡ false
-        → named ≡ Ok Device → reads_named task.entry.asked.now.devices ≡ true → OnOk result (Tries outcome.old outcome.new) }
-    ensures file { is_left_out (selection task.entry.selection.now) task.entry.bare named path.now ≡ false
-        → named ≡ Ok File → OnOk result (Tries outcome.old outcome.new) }
-    ensures input { named ≡ Ok Input → task.entry.selection.now.lists ≡ false → OnOk result (Tries outcome.old outcome.new) }
-    ensures continues { Continues outcome.old outcome.new }
-{
-    if is_left_out(rt.alloc(), task, path, &named)? {
-        return Ok(());
-    }
-    match named {
-        Ok(Named::Input) => search_input(rt, finder, task, outcome),
-        Ok(Named::File) => search_file(rt, finder, task, outcome, path),
-        Ok(Named::Folder) => return search_directory(rt, finder, task, outcome, path),
-        Ok(Named::Device) => {
-            let is_read = reads_named(task.asked.devices);
-            search_device(rt, finder, task, outcome, path, is_read);
-        }
-        Err(e) => outcome.fail(rt, task.asked, path, e),
-    }
-    Ok(())
-}
-
 /// Whether what an argument names may be several files: the files of a folder.
 fn may_be_several(directories: Directories, named: &io::Result<Named>) -> bool
     ensures { result ≡ may_be_several directories named.now }
@@ -332,7 +295,11 @@ fn may_be_several(directories: Directories, named: &io::Result<Named>) -> bool
 }
 
 /// What files are searched for, where no names are printed yet.
-fn task_of<'a>(rt: &HostRuntime, asked: &'a Asked<'a>, files: Files<'a>) -> Task<'a> {
+fn task_of<'a>(rt: &HostRuntime, asked: &'a Asked<'a>, files: Files<'a>) -> Task<'a>
+    ensures asked { result.asked.now ≡ asked.now }
+    ensures selection { result.selection.now ≡ files.entry.selection.now }
+    ensures bare { result.bare ≡ (length files.entry.names.now == 0) }
+{
     Task {
         asked,
         with_name: false,
@@ -349,7 +316,9 @@ fn task_of<'a>(rt: &HostRuntime, asked: &'a Asked<'a>, files: Files<'a>) -> Task
 }
 
 /// What is asked for. If the names of files are printed, folders are searched too, unless these are skipped.
-fn with_folders<'a>(asked: &Asked<'a>, lists: bool) -> Asked<'a> {
+fn with_folders<'a>(asked: &Asked<'a>, lists: bool) -> Asked<'a>
+    ensures { result ≡ with_listed_folders asked.now lists }
+{
     if !lists || asked.directories == Directories::Skip {
         return *asked;
     }
@@ -360,7 +329,9 @@ fn with_folders<'a>(asked: &Asked<'a>, lists: bool) -> Asked<'a> {
 }
 
 /// What is searched if no argument names anything.
-fn default_paths<'a>(directories: Directories) -> &'a [&'a str] {
+fn default_paths<'a>(directories: Directories) -> &'a [&'a str]
+    ensures { map (λ p. p.now) result.now ≡ default_paths directories }
+{
     if directories == Directories::Recurse {
         &["."]
     } else {
@@ -376,7 +347,8 @@ fn paths_of<'a>(
     patterns: &[String],
     files: Files<'a>,
 ) -> &'a [&'a str]
-    ensures { selects_none asked.now (map string_bytes patterns.now) ≡ true → files.entry.selection.now.lists ≡ false → result.now ≡ [] }
+    ensures { map (λ p. p.now) result.now ≡ searched_paths asked.now directories files.entry.selection.now.lists
+        (map string_bytes patterns.now) (map (λ p. p.now) files.entry.names.now) }
 {
     if !files.selection.lists && selects_none(asked, patterns) {
         return &[];
@@ -406,8 +378,9 @@ fn conclude(
     Ok(())
 }
 
-/// Searches what arguments name, and prints what is printed after all files. Names are printed if several files may be searched, or if options
-/// ask for them. No file is opened if none of their lines can be selected.
+/// Searches what arguments name, unless the options leave it out, and prints what is printed after all files. What can't be searched is
+/// recorded. Names are printed if several files may be searched, or if options ask for them. No file is opened if none of their lines can be
+/// selected.
 pub fn search_files(
     rt: &HostRuntime,
     finder: &mut Finder<'_>,
@@ -418,6 +391,8 @@ pub fn search_files(
 ) -> Result<(), AllocError>
     ensures none { selects_none asked.now (map string_bytes patterns.now) ≡ true → files.entry.selection.now.lists ≡ false
         → prints_summary asked.now ≡ false → outcome.new ≡ outcome.old }
+    ensures each { (done : Bool) × OnOk result (done ≡ true) × SearchesNames asked.now (selection files.entry.selection.now)
+        (map string_bytes patterns.now) (map (λ p. p.now) files.entry.names.now) done outcome.old outcome.new }
     ensures continues { Continues outcome.old outcome.new }
 {
     let searched = with_folders(asked, files.selection.lists);
@@ -431,7 +406,19 @@ pub fn search_files(
         let several = paths.len() > 1 || may_be_several(searched.directories, &named);
         let with_name = is_named(searched.names, several);
         let task = Task { with_name, ..task };
-        search_as(rt, finder, task, outcome, path, named)?;
+        if is_left_out(rt.alloc(), task, path, &named)? {
+            continue;
+        }
+        match named {
+            Ok(Named::Input) => search_input(rt, finder, task, outcome),
+            Ok(Named::File) => search_file(rt, finder, task, outcome, path),
+            Ok(Named::Folder) => search_directory(rt, finder, task, outcome, path)?,
+            Ok(Named::Device) => {
+                let is_read = reads_named(task.asked.devices);
+                search_device(rt, finder, task, outcome, path, is_read);
+            }
+            Err(e) => outcome.fail(rt, task.asked, path, e),
+        }
         if outcome.ended {
             break;
         }

@@ -16,7 +16,7 @@ use Rattle.growing_regex.specs.Earliest.{HasNoSpan, NoneEndsBefore, IsLeastEnd, 
 use Rattle.pattern_search.specs.Texts.{AreReadAs}
 use Rattle.line_search.specs.BoundedTrees.{IsTreeForLines}
 use Rattle.line_search.specs.Meant.{line_config}
-use Rattle.line_search.specs.declared.candidates.Candidates.{Candidates}
+use Rattle.line_search.specs.declared.candidates.BlockFacts.{BlockFacts}
 use Rattle.line_search.specs.declared.candidates.Reached.{Reached}
 use Rattle.line_search.specs.declared.patterns.PatternOptions.{PatternOptions}
 use Rattle.line_search.specs.Lines.{ended, searched, split_lines}
@@ -31,7 +31,8 @@ pub record BlockRegex : Type 0 where
   pub feedless : Bool
   pub crlf : Bool
 
-abbrev pub block_regex : Pair → Candidates → BlockRegex
+-- A regex, with what is known of searches by it.
+abbrev pub block_regex : Pair → BlockFacts → BlockRegex
 block_regex re p = record { regex = re; exact = p.exact; feedless = p.feedless; crlf = p.crlf }
 
 -- The tree that is searched for: that of the patterns, or, unless it has to be exact, that tree without its looks at words by characters,

@@ -7,7 +7,7 @@ ghost use Rattle.line_trees.specs.LineTrees.{reads_feed};
 ghost use Rattle.line_search.specs.Searchers.{line_settings};
 ghost use Rattle.line_search.specs.declared.fault.Fault.TheVariants.{NoMemory};
 
-use crate::candidates::{Candidates, Reached, block_search, exact_regex, stop_of, wordless_regex};
+use crate::candidates::{BlockFacts, Reached, block_search, exact_regex, stop_of, wordless_regex};
 use crate::fault::Fault;
 use crate::line_patterns::LinePatterns;
 use growing_regex::GrowingRegex;
@@ -26,7 +26,7 @@ pub(crate) struct CandidateFinder<'t> {
     patterns: &'t LinePatterns<'t>,
     exact: Option<GrowingRegex>,
     /// What is known of the exact one.
-    known: Candidates,
+    known: BlockFacts,
     /// It is built when the exact one first gives up, if that is possible.
     wordless: Option<GrowingRegex>,
     /// Whether the exact one gave up before.
@@ -120,7 +120,7 @@ impl<'t> CandidateFinder<'t> {
         CandidateFinder {
             patterns,
             exact: exact_candidates(alloc, patterns, tree, lines),
-            known: Candidates::of(tree, true, patterns.how().crlf),
+            known: BlockFacts::of(tree, true, patterns.how().crlf),
             wordless: None,
             gave_up: false,
             wordless_left: 0,
@@ -153,7 +153,7 @@ impl<'t> CandidateFinder<'t> {
             Ok(stop) => stop,
             Err(e) => return Err(e),
         };
-        let known = Candidates::without_words(self.patterns.how().crlf);
+        let known = BlockFacts::without_words(self.patterns.how().crlf);
         let reached = known.reached(block, at, stop);
         Ok(reached)
     }

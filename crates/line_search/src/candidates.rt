@@ -40,7 +40,7 @@ use std::sync::Arc;
 /// gives up at each byte above ASCII. Without them it doesn't, but a line with a match need have none of the patterns. If the tree is its
 /// own line tree, the regex is shared with the search of lines.
 #[derive(Clone, Copy)]
-pub(crate) struct Candidates {
+pub(crate) struct BlockFacts {
     /// Whether the tree of the patterns is searched for as it is.
     exact: bool,
     /// Whether the tree consumes no line feed.
@@ -243,13 +243,13 @@ pub(crate) fn block_search(
     Ok(Some(search))
 }
 
-impl Candidates {
+impl BlockFacts {
     /// What is known of a search for this tree as it is, or without its looks at words by characters.
-    pub(crate) fn of(tree: &Hir, exact: bool, crlf: bool) -> Candidates
+    pub(crate) fn of(tree: &Hir, exact: bool, crlf: bool) -> BlockFacts
         ensures { result ≡ record { exact = exact; feedless = not (reads_feed tree.now); crlf = crlf } }
     {
         let feedless = !reads_feed(tree);
-        Candidates {
+        BlockFacts {
             exact,
             feedless,
             crlf,
@@ -257,10 +257,10 @@ impl Candidates {
     }
 
     /// What is known of any search without looks at words by characters.
-    pub(crate) fn without_words(crlf: bool) -> Candidates
+    pub(crate) fn without_words(crlf: bool) -> BlockFacts
         ensures { result ≡ record { exact = false; feedless = false; crlf = crlf } }
     {
-        Candidates {
+        BlockFacts {
             exact: false,
             feedless: false,
             crlf,

@@ -5,7 +5,7 @@ use Rattle.pattern_text.specs.Words.{word_set}
 use Rattle.growing_regex.specs.Growing.{Growing}
 use Rattle.line_search.specs.Candidates.{IsCandidatesOf, IsNextLine, block_regex}
 use Rattle.line_search.specs.Searchers.{line_settings}
-use Rattle.line_search.specs.declared.candidates.Candidates.{Candidates}
+use Rattle.line_search.specs.declared.candidates.BlockFacts.{BlockFacts}
 use Rattle.line_search.specs.declared.patterns.PatternOptions.{PatternOptions}
 use Rattle.line_search.proofs.CandidateLemmas.{here_is_next, reached_is_next}
 use Rattle.line_search.proofs.candidate_finder.CandidateFinder.reach_wordless.Goals as goal
@@ -27,7 +27,7 @@ returns-clause-next c =
     subst (λ (v : PatternOptions × List (List ℕ)). IsNextLine v.0 v.1 c.args.block.now c.args.at c.reached-reached.result) c.self.view_is
     (reached_is_next how texts (block_regex c.in-Some.wordless.pair c.without_words-known.result) c.args.block.now c.args.at c.in-Ok.stop
     c.reached-reached.result
-    (subst (λ (k : Candidates). IsCandidatesOf how texts (block_regex c.in-Some.wordless.pair k)) same it) c.reached-reached.ensures.from c.reached-reached.ensures.within c.reached-reached.ensures.starts
+    (subst (λ (k : BlockFacts). IsCandidatesOf how texts (block_regex c.in-Some.wordless.pair k)) same it) c.reached-reached.ensures.from c.reached-reached.ensures.within c.reached-reached.ensures.starts
     (c.reached-reached.ensures.passed how texts c.in-Some.wordless.pair) (c.reached-reached.ensures.has how texts c.in-Some.wordless.pair)
     (λ xs built. c.in-Ok.ensures.reported xs c.args.block.now
     (c.find_earliest_end-found.ensures.found xs line_settings built refl refl is_word_char word_set)

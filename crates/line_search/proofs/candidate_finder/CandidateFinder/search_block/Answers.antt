@@ -5,7 +5,7 @@ use Rattle.pattern_text.specs.Words.{word_set}
 use Rattle.growing_regex.specs.Growing.{Growing}
 use Rattle.line_search.specs.Candidates.{IsCandidatesOf, IsNextLine, block_regex}
 use Rattle.line_search.specs.Searchers.{line_settings}
-use Rattle.line_search.specs.declared.candidates.Candidates.{Candidates}
+use Rattle.line_search.specs.declared.candidates.BlockFacts.{BlockFacts}
 use Rattle.line_search.specs.declared.patterns.PatternOptions.{PatternOptions}
 use Rattle.line_search.proofs.CandidateLemmas.{here_is_next, reached_is_next}
 use Rattle.line_search.proofs.candidate_finder.CandidateFinder.search_block.Goals as goal

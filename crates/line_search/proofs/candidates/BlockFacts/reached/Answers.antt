@@ -3,7 +3,7 @@ use Rattle.std.specs.Prelude.{IfSome, option_map, true}
 use Rattle.line_trees.specs.LineTrees.{line_tree}
 use Rattle.line_search.specs.Candidates.{block_regex, searched_tree}
 use Rattle.line_search.proofs.CandidateLemmas.{EndsAt, StopsAt, all_passed, lines_passed, match_known, stops_in_line}
-use Rattle.line_search.proofs.candidates.Candidates.reached.Goals as goal
+use Rattle.line_search.proofs.candidates.BlockFacts.reached.Goals as goal
 
 pub returns-in-None-clause-passed : goal.returns-in-None-clause-passed
 returns-in-None-clause-passed c how texts re it stop =
