@@ -1,0 +1,7 @@
+use Rattle.grep_options.specs.Rows.{rows_in}
+use Rattle.grep_options.proofs.Rows.{next_rows}
+use Rattle.grep_options.proofs.option_rows.push_tables.Goals as goal
+
+pub loop-rows-preserved : goal.loop-rows-preserved
+loop-rows-preserved c =
+    next_rows rows_in c.args.tables.now c.loop-rows.rows-index _ c.loop-rows-test.true c.loop-rows.invariant c.in_ok-push_rows.ensures
