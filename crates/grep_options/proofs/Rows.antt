@@ -29,6 +29,12 @@ joined {a = a} {xs = xs} {ys = ys} p q = record { added = q.added ∙ (ap (λ m.
 pub adds_as : {a b : List Arg} {xs ys : List OptionRow} → AddsOptions a b xs → xs ≡ ys → AddsOptions a b ys
 adds_as {a = a} p e = record { added = p.added ∙ ap (λ rs. option_rows a ++ rs) e }
 
+-- one more option, with this row
+pub appended : (old new : List Arg) (a : Arg) (row : OptionRow) → new ≡ old ++ a ∷ [] → option_row a ≡ row → AddsOptions old new (row ∷ [])
+appended old new a row e f = record {
+  added = ap option_rows e ∙ (map-append option_row old (a ∷ []) ∙ ap (λ (r : OptionRow). option_rows old ++ r ∷ []) f);
+}
+
 -- of a list of which each item stands for some options, those of one more item
 next_taken : {X : Type 0} (xs : List X) (i : ℕ) (d : X) → i < length xs → take i xs ++ get_or xs i d ∷ [] ≡ take (i + 1) xs
 next_taken xs i d below =

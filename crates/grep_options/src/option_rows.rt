@@ -285,11 +285,11 @@ fn option_of<'a>(alloc: Global, row: &'a Row<'a>) -> Result<Arg<'a>, AllocError>
     with_others(arg, row)
 }
 
-/// Appends an option. Only this function drops an option for which there is no room.
-fn push<'a>(args: &mut Vec<Arg<'a>>, arg: Arg<'a>) -> Result<(), AllocError>
-    ensures { OnOk result (AddsOptions args.old.items args.new.items (option_row arg.entry ∷ [])) }
+/// Appends an item. Only this function drops one for which there is no room.
+fn append<T: Drop>(items: &mut Vec<T>, item: T) -> Result<(), AllocError>
+    ensures { OnOk result (items.new.items ≡ items.old.items ++ item ∷ []) }
 {
-    args.push(arg)?;
+    items.push(item)?;
     Ok(())
 }
 
@@ -298,7 +298,8 @@ fn push_row<'a>(alloc: Global, args: &mut Vec<Arg<'a>>, row: &'a Row<'a>) -> Res
     ensures { OnOk result (AddsOptions args.old.items args.new.items (row_of row.now ∷ [])) }
 {
     let arg = option_of(alloc, row)?;
-    push(args, arg)
+    append(args, arg)?;
+    Ok(())
 }
 
 /// Appends the options of these rows.
