@@ -81,7 +81,3 @@ row_of r = record {
   excludes = texts_in r.without.now;
   is_global = false;
 }
-
--- the options of a table
-abbrev pub rows_in : Bor (List Row) → List OptionRow
-rows_in t = map row_of t.now

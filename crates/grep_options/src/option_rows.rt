@@ -1,7 +1,7 @@
 //! Options as rows of tables, and how they are added to a command.
 ghost use Rattle.std.specs.Prelude.{◌≡◌, ◌∷◌, ◌++◌, ℕ, List, [], None, Option, Some, OnOk, IfOk, if◌then◌else◌, flat_map, map};
 ghost use Rattle.grep_options.specs.CommandLine.{AddsOptions, option, option_row};
-ghost use Rattle.grep_options.specs.Rows.{action_of, letter_or, long_or, missing_or, related, row_of, rows_in};
+ghost use Rattle.grep_options.specs.Rows.{action_of, letter_or, long_or, missing_or, related, row_of};
 
 use clap::builder::{ValueParser, ValueRange};
 use clap::{Arg, ArgAction, value_parser};
@@ -322,7 +322,7 @@ pub fn push_tables<'a>(
     args: &mut Vec<Arg<'a>>,
     tables: &[&'a [Row<'a>]],
 ) -> Result<(), AllocError>
-    ensures { OnOk result (AddsOptions args.old.items args.new.items (flat_map rows_in tables.now)) }
+    ensures { OnOk result (AddsOptions args.old.items args.new.items (flat_map (λ t. map row_of t.now) tables.now)) }
 {
     for rows in tables {
         push_rows(alloc, args, rows)?;
