@@ -1,3 +1,4 @@
+mod EscapeLemmas
+mod Letters
 pub mod ReadValues
 pub mod Rows
-mod EscapeLemmas

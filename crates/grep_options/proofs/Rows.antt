@@ -1,6 +1,8 @@
 -- Options that are added in turn.
-use Rattle.std.proofs.Common.{◌≡◌, ◌∙◌, ℕ, zero, suc, Bool, true, false, List, ◌++◌, ◌∷◌, [], ◌||◌}
-use Rattle.std.proofs.Common.{ap, append_assoc, map, refl, sym, slice_get, unwrap_or}
+use Rattle.std.proofs.Common.{◌≡◌, ◌∙◌, ℕ, zero, suc, ◌+◌, ◌<◌, Bool, true, false, List, ◌++◌, ◌∷◌, [], ◌||◌}
+use Rattle.std.proofs.Common.{ap, append_assoc, arith, flat_map, get_or, length, map, refl, sym, slice_get, take, unwrap_or}
+use Rattle.std.proofs.Math.Seq.{take-suc}
+use Rattle.std.proofs.lemmas.Grind.{flat_map-append}
 use Rattle.std.proofs.lemmas.List.{append-nil, append_cancel_left, map-append}
 use Rattle.std.specs.List.{list_any}
 use Rattle.std.specs.Borrow.{Bor}
@@ -26,6 +28,36 @@ joined {a = a} {xs = xs} {ys = ys} p q = record { added = q.added ∙ (ap (λ m.
 -- the same options, by an equation of their rows
 pub adds_as : {a b : List Arg} {xs ys : List OptionRow} → AddsOptions a b xs → xs ≡ ys → AddsOptions a b ys
 adds_as {a = a} p e = record { added = p.added ∙ ap (λ rs. option_rows a ++ rs) e }
+
+-- one more option, with this row
+pub appended : (old new : List Arg) (a : Arg) (row : OptionRow) → new ≡ old ++ a ∷ [] → option_row a ≡ row → AddsOptions old new (row ∷ [])
+appended old new a row e f = record {
+  added = ap option_rows e ∙ (map-append option_row old (a ∷ []) ∙ ap (λ (r : OptionRow). option_rows old ++ r ∷ []) f);
+}
+
+-- of a list of which each item stands for some options, those of one more item
+next_taken : {X : Type 0} (xs : List X) (i : ℕ) (d : X) → i < length xs → take i xs ++ get_or xs i d ∷ [] ≡ take (i + 1) xs
+next_taken xs i d below =
+    let after : suc i ≡ i + 1 = omega arith in
+    sym (take-suc xs i d below) ∙ ap (λ (k : ℕ). take k xs) after
+
+pub next_row : {X : Type 0} (f : X → OptionRow) (xs : List X) (i : ℕ) (d : X) → i < length xs → {a b c : List Arg}
+    → AddsOptions a b (map f (take i xs)) → AddsOptions b c (f (get_or xs i d) ∷ []) → AddsOptions a c (map f (take (i + 1) xs))
+next_row f xs i d below p q =
+    adds_as (joined p q) (sym (map-append f (take i xs) (get_or xs i d ∷ [])) ∙ ap (map f) (next_taken xs i d below))
+
+pub next_rows : {X : Type 0} (f : X → List OptionRow) (xs : List X) (i : ℕ) (d : X) → i < length xs → {a b c : List Arg}
+    → AddsOptions a b (flat_map f (take i xs)) → AddsOptions b c (f (get_or xs i d)) → AddsOptions a c (flat_map f (take (i + 1) xs))
+next_rows f xs i d below p q =
+    let last = ap (λ (rs : List OptionRow). flat_map f (take i xs) ++ rs) (sym (append-nil (f (get_or xs i d)))) in
+    let all = sym (flat_map-append f (take i xs) (get_or xs i d ∷ [])) ∙ ap (flat_map f) (next_taken xs i d below) in
+    adds_as (joined p q) (last ∙ all)
+
+pub both : {a b x y : List OptionRow} → a ≡ b → x ≡ y → a ++ x ≡ b ++ y
+both {b = b} {x = x} e f = ap (λ (rs : List OptionRow). rs ++ x) e ∙ ap (λ (rs : List OptionRow). b ++ rs) f
+
+pub alone : {a b : List OptionRow} → a ≡ b → a ++ [] ≡ b ++ []
+alone = ap (λ (rs : List OptionRow). rs ++ [])
 
 letter_given : (c : ℕ) → (c ≡ 0 → ⊥) → letter_or [] c ≡ c ∷ []
 letter_given zero given = absurd (given refl)

@@ -43,16 +43,12 @@ fn push_escaped(out: &mut Vec<u8>, byte: u8) -> Result<(), AllocError>
     ensures { OnOk result (out.new.items ≡ out.old.items ++ escaped byte) }
 {
     match byte {
-        b'n' => out.push(b'\n')?,
-        b'r' => out.push(b'\r')?,
-        b't' => out.push(b'\t')?,
-        b'\\' => out.push(b'\\')?,
-        _ => {
-            out.push(b'\\')?;
-            out.push(byte)?;
-        }
+        b'n' => out.extend_from_slice(b"\n"),
+        b'r' => out.extend_from_slice(b"\r"),
+        b't' => out.extend_from_slice(b"\t"),
+        b'\\' => out.extend_from_slice(b"\\"),
+        _ => out.extend_from_slice(&[b'\\', byte]),
     }
-    Ok(())
 }
 
 /// Appends what `\x` and these two bytes stand for.
@@ -60,13 +56,9 @@ fn push_hex(out: &mut Vec<u8>, first: u8, byte: u8) -> Result<(), AllocError>
     ensures { OnOk result (out.new.items ≡ out.old.items ++ hex_byte first byte) }
 {
     if is_hex(first) && is_hex(byte) {
-        out.push(16 * digit_value(first) + digit_value(byte))?;
-        return Ok(());
+        return out.extend_from_slice(&[16 * digit_value(first) + digit_value(byte)]);
     }
-    out.extend_from_slice(b"\\x")?;
-    out.push(first)?;
-    out.push(byte)?;
-    Ok(())
+    out.extend_from_slice(&[b'\\', b'x', first, byte])
 }
 
 /// Appends what the next byte stands for after so much of an escape. Returns how much of one is read then.
@@ -80,10 +72,7 @@ fn push_byte(out: &mut Vec<u8>, escape: Escape, byte: u8) -> Result<Escape, Allo
         Escape::Backslash if byte == b'x' => return Ok(Escape::Hex),
         Escape::Backslash => push_escaped(out, byte)?,
         Escape::Hex if is_hex(byte) => return Ok(Escape::Digit(byte)),
-        Escape::Hex => {
-            out.extend_from_slice(b"\\x")?;
-            out.push(byte)?;
-        }
+        Escape::Hex => out.extend_from_slice(&[b'\\', b'x', byte])?,
         Escape::Digit(first) => push_hex(out, first, byte)?,
     }
     Ok(Escape::Nothing)
@@ -94,15 +83,11 @@ fn push_unread(out: &mut Vec<u8>, escape: Escape) -> Result<(), AllocError>
     ensures { OnOk result (out.new.items ≡ out.old.items ++ unread escape) }
 {
     match escape {
-        Escape::Nothing => {}
-        Escape::Backslash => out.push(b'\\')?,
-        Escape::Hex => out.extend_from_slice(b"\\x")?,
-        Escape::Digit(first) => {
-            out.extend_from_slice(b"\\x")?;
-            out.push(first)?;
-        }
+        Escape::Nothing => Ok(()),
+        Escape::Backslash => out.extend_from_slice(b"\\"),
+        Escape::Hex => out.extend_from_slice(b"\\x"),
+        Escape::Digit(first) => out.extend_from_slice(&[b'\\', b'x', first]),
     }
-    Ok(())
 }
 
 /// A text in which `\n`, `\r`, `\t`, `\\` and `\x7F`, with any two hexadecimal digits, stand for bytes. Other backslashes stand for themselves.

@@ -1,5 +1,7 @@
 //! Numbers given as options of their own, as `-5`. The toolchain's parser has no such options, so `-C` is put before them.
 ghost use Rattle.std.specs.Prelude.{◌≡◌, ◌++◌, ◌∷◌, [], None, true, false, IfOk, IfSome, IsTrue, OnOk, map, string_bytes};
+ghost use Rattle.std.specs.List.{list_any};
+ghost use Rattle.std.specs.Str.{bytes_eq};
 ghost use Rattle.grep_options.specs.Numbers.{after_letters, after_other, has_letters, is_awaiting, is_awaiting_choice, is_awaiting_file, is_awaiting_format, is_awaiting_separator, is_digit, letters_in, letters_of};
 ghost use Rattle.grep_options.specs.Numbers.{next_word, no_letters, option_words, takes_value, add_byte, add_bytes, with_digit, with_numbers, words_for};
 ghost use Rattle.grep_options.specs.declared.numbers.Next.TheVariants.{AnyWord, Value};
@@ -158,71 +160,89 @@ fn push_pieces(
     push_bytes(alloc, words, "-", cluster.letters.as_slice())
 }
 
+/// Whether the word is one of these.
+fn is_one_of(word: &str, names: &[&str]) -> bool
+    ensures { result ≡ list_any (λ n. bytes_eq word.now n.now) names.now }
+{
+    for name in names {
+        if word == *name {
+            return true;
+        }
+    }
+    false
+}
+
 /// Whether the word is an option that chooses files or limits what is read of them, and that GNU grep doesn't have.
 fn is_awaiting_choice(word: &str) -> bool
     ensures { result ≡ is_awaiting_choice word.now }
 {
-    word == "--iglob"
-        || word == "--ignore-file"
-        || word == "--max-filesize"
-        || word == "--max-size"
-        || word == "--type-add"
-        || word == "--type-clear"
+    const NAMES: [&str; 6] = [
+        "--iglob",
+        "--ignore-file",
+        "--max-filesize",
+        "--max-size",
+        "--type-add",
+        "--type-clear",
+    ];
+    is_one_of(word, &NAMES)
 }
 
 /// Whether the word is an option that chooses files.
 fn is_awaiting_file(word: &str) -> bool
     ensures { result ≡ is_awaiting_file word.now }
 {
-    word == "--include"
-        || word == "--exclude"
-        || word == "--exclude-from"
-        || word == "--exclude-dir"
-        || word == "--glob"
-        || word == "--max-depth"
-        || word == "--sort"
-        || word == "--type"
-        || word == "--type-not"
-        || is_awaiting_choice(word)
+    const NAMES: [&str; 9] = [
+        "--include",
+        "--exclude",
+        "--exclude-from",
+        "--exclude-dir",
+        "--glob",
+        "--max-depth",
+        "--sort",
+        "--type",
+        "--type-not",
+    ];
+    is_one_of(word, &NAMES) || is_awaiting_choice(word)
 }
 
 /// Whether the word is an option on separators.
 fn is_awaiting_separator(word: &str) -> bool
     ensures { result ≡ is_awaiting_separator word.now }
 {
-    word == "--group-separator"
-        || word == "--field-match-separator"
-        || word == "--field-context-separator"
-        || word == "--path-separator"
+    const NAMES: [&str; 4] = [
+        "--group-separator",
+        "--field-match-separator",
+        "--field-context-separator",
+        "--path-separator",
+    ];
+    is_one_of(word, &NAMES)
 }
 
 /// Whether the word is an option on what is printed, whose value is the next word.
 fn is_awaiting_format(word: &str) -> bool
     ensures { result ≡ is_awaiting_format word.now }
 {
-    is_awaiting_separator(word)
-        || word == "--max-columns"
-        || word == "--replace"
-        || word == "--binary-files"
-        || word == "--encoding"
+    const NAMES: [&str; 4] = ["--max-columns", "--replace", "--binary-files", "--encoding"];
+    is_awaiting_separator(word) || is_one_of(word, &NAMES)
 }
 
 /// Whether the word is a long option whose value is the next word.
 fn is_awaiting(word: &str) -> bool
     ensures { result ≡ is_awaiting word.now }
 {
-    word == "--regexp"
-        || word == "--file"
-        || word == "--directory"
-        || word == "--max-count"
-        || word == "--after-context"
-        || word == "--before-context"
-        || word == "--context"
-        || word == "--label"
-        || word == "--directories"
-        || word == "--devices"
-        || is_awaiting_format(word)
-        || is_awaiting_file(word)
+    const NAMES: [&str; 10] = [
+        "--regexp",
+        "--file",
+        "--directory",
+        "--max-count",
+        "--after-context",
+        "--before-context",
+        "--context",
+        "--label",
+        "--directories",
+        "--devices",
+    ];
+    is_one_of(word, &NAMES) || is_awaiting_format(word) || is_awaiting_file(word)
 }
 
 /// What may follow a word that isn't one of letters.

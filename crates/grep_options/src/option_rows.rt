@@ -1,10 +1,12 @@
 //! Options as rows of tables, and how they are added to a command.
-ghost use Rattle.std.specs.Prelude.{◌≡◌, ◌∷◌, ◌++◌, [], None, OnOk, IfOk, map};
+ghost use Rattle.std.specs.Prelude.{◌≡◌, ◌∷◌, ◌++◌, ℕ, List, [], None, Option, Some, OnOk, IfOk, if◌then◌else◌, flat_map, map};
 ghost use Rattle.grep_options.specs.CommandLine.{AddsOptions, option, option_row};
 ghost use Rattle.grep_options.specs.Rows.{action_of, letter_or, long_or, missing_or, related, row_of};
 
+use clap::builder::{ValueParser, ValueRange};
 use clap::{Arg, ArgAction, value_parser};
 use std::alloc::{AllocError, Global};
+use std::slice;
 
 /// What a use of an option does, and which values it takes.
 #[derive(Clone, Copy)]
@@ -125,27 +127,109 @@ fn heading_of(subject: Subject) -> &'static str {
     }
 }
 
+/// Whether an option of this kind has a long name.
+fn has_long(kind: Kind) -> bool
+    ensures { (old : Option (List ℕ)) (name : List ℕ) → long_or old kind name ≡ (if result then Some name else old) }
+{
+    match kind {
+        Kind::Letter => false,
+        Kind::Operands => false,
+        _ => true,
+    }
+}
+
+fn is_hidden(kind: Kind) -> bool {
+    matches!(kind, Kind::Hidden)
+}
+
+fn is_integer(kind: Kind) -> bool {
+    matches!(kind, Kind::Integer)
+}
+
+fn is_color(kind: Kind) -> bool {
+    matches!(kind, Kind::Color)
+}
+
+/// Whether values may look like options.
+fn takes_hyphens(kind: Kind) -> bool {
+    matches!(kind, Kind::List | Kind::Text)
+}
+
+/// The values that a use without one has.
+fn missing_of(kind: Kind) -> &'static [&'static str]
+    ensures { map (λ s. s.now) result.now ≡ missing_or [] kind }
+{
+    match kind {
+        Kind::Color => &["auto"],
+        _ => &[],
+    }
+}
+
+/// How many values a use of an option takes. But for operands and colors it is what the parser takes for such an action.
+fn values_of(kind: Kind) -> ValueRange {
+    match kind {
+        Kind::Operands => ValueRange::new(0..),
+        Kind::Color => ValueRange::new(0..=1),
+        Kind::List | Kind::Text | Kind::Word | Kind::Number | Kind::Integer => ValueRange::SINGLE,
+        Kind::Flag | Kind::Letter | Kind::Hidden | Kind::Help | Kind::Version => ValueRange::EMPTY,
+    }
+}
+
+/// What a value has to be. If the row doesn't say so, it is what the parser takes for such an action.
+fn parser_of<'a>(kind: Kind, words: &'a [&'a str]) -> ValueParser<'a> {
+    if !words.is_empty() {
+        return ValueParser::Names(words);
+    }
+    match kind {
+        Kind::Number => value_parser!(u64),
+        Kind::Integer => value_parser!(i64),
+        Kind::Flag | Kind::Letter | Kind::Hidden => ValueParser::bool(),
+        _ => ValueParser::string(),
+    }
+}
+
+/// What help calls the values: one name, or none.
+fn value_names<'a>(name: &'a &'a str) -> &'a [&'a str] {
+    if name.is_empty() {
+        return &[];
+    }
+    slice::from_ref(name)
+}
+
+/// The option without a name, under no heading.
+fn unnamed<'a>(alloc: Global, row: &'a Row<'a>) -> Arg<'a>
+    ensures { option_row result
+        ≡ record (option row.now.id.now [] (action_of row.now.kind)) { long = None; missing = missing_or [] row.now.kind } }
+{
+    let kind = row.kind;
+    Arg::new(alloc, row.id)
+        .action(action_of(kind))
+        .help(row.help)
+        .hide(is_hidden(kind))
+        .allow_hyphen_values(takes_hyphens(kind))
+        .allow_negative_numbers(is_integer(kind))
+        .require_equals(is_color(kind))
+        .default_missing_values(missing_of(kind))
+        .num_args(values_of(kind))
+        .value_parser(parser_of(kind, row.words))
+        .value_names(value_names(&row.value))
+}
+
 /// The option with its long name, if it has one.
 fn with_long<'a>(arg: Arg<'a>, kind: Kind, id: &'a str) -> Arg<'a>
     ensures { option_row result ≡ record (option_row arg.entry) { long = long_or (option_row arg.entry).long kind id.entry.now } }
 {
-    match kind {
-        Kind::Letter => arg,
-        Kind::Operands => arg,
-        _ => arg.long(id),
+    if has_long(kind) {
+        return arg.long(id);
     }
+    arg
 }
 
-/// The option by itself, under the heading of its subject.
-fn named<'a>(alloc: Global, row: &Row<'a>) -> Arg<'a>
-    ensures { option_row result
-        ≡ record (option row.now.id.now [] (action_of row.now.kind)) { long = long_or None row.now.kind row.now.id.now } }
+/// The option under the heading of its subject, if it has one.
+fn with_heading<'a>(arg: Arg<'a>, subject: Subject) -> Arg<'a>
+    ensures { option_row result ≡ option_row arg.entry }
 {
-    let arg = Arg::new(alloc, row.id)
-        .action(action_of(row.kind))
-        .help(row.help);
-    let arg = with_long(arg, row.kind, row.id);
-    let heading = heading_of(row.subject);
+    let heading = heading_of(subject);
     if heading.is_empty() {
         return arg;
     }
@@ -173,107 +257,75 @@ fn with_other_letter<'a>(arg: Arg<'a>, letter: char) -> Result<Arg<'a>, AllocErr
     arg.short_alias(letter)
 }
 
-/// The option, for values of its kind.
-fn with_values<'a>(arg: Arg<'a>, kind: Kind) -> Arg<'a>
-    ensures { option_row result ≡ record (option_row arg.entry) { missing = missing_or (option_row arg.entry).missing kind } }
-{
-    match kind {
-        Kind::Hidden => arg.hide(true),
-        Kind::List => arg.allow_hyphen_values(true),
-        Kind::Operands => arg.num_args(0..),
-        Kind::Text => arg.allow_hyphen_values(true),
-        Kind::Number => arg.value_parser(value_parser!(u64)),
-        Kind::Integer => arg
-            .allow_negative_numbers(true)
-            .value_parser(value_parser!(i64)),
-        Kind::Color => arg
-            .num_args(0..=1)
-            .require_equals(true)
-            .default_missing_value("auto"),
-        _ => arg,
-    }
-}
-
-/// The option, whose value help calls by this name.
-fn with_value_name<'a>(arg: Arg<'a>, value: &'a str) -> Arg<'a>
-    ensures { option_row result ≡ option_row arg.entry }
-{
-    if value.is_empty() {
-        return arg;
-    }
-    arg.value_name(value)
-}
-
-/// The option, which takes these values alone if there are any.
-fn with_words<'a>(arg: Arg<'a>, words: &'a [&'a str]) -> Arg<'a>
-    ensures { option_row result ≡ option_row arg.entry }
-{
-    if words.is_empty() {
-        return arg;
-    }
-    arg.value_parser(words)
-}
-
-/// The option with its letters, for the values that it takes.
-fn with_letters<'a>(arg: Arg<'a>, row: &Row<'a>) -> Result<Arg<'a>, AllocError>
-    ensures { IfOk result (λ a. option_row a ≡ record (option_row arg.entry) {
-      letter = letter_or (option_row arg.entry).letter row.now.letter;
-      other_letters = (option_row arg.entry).other_letters ++ letter_or [] row.now.other_letter;
-      missing = missing_or (option_row arg.entry).missing row.now.kind;
-    }) }
-{
-    let arg = with_letter(arg, row.letter);
-    let arg = with_values(arg, row.kind);
-    let arg = with_value_name(arg, row.value);
-    let arg = with_words(arg, row.words);
-    with_other_letter(arg, row.other_letter)
-}
-
 /// The option with its other names and what it does to other options.
 fn with_others<'a>(arg: Arg<'a>, row: &Row<'a>) -> Result<Arg<'a>, AllocError>
     ensures { IfOk result (λ a. option_row a
         ≡ related (option_row arg.entry) row.now.aliases.now row.now.over.now row.now.without.now) }
 {
-    let arg = arg.aliases(row.aliases)?;
-    let arg = arg.overrides_with_all(row.over)?;
+    let arg = match arg.aliases(row.aliases) {
+        Ok(arg) => arg,
+        Err(_) => return Err(AllocError),
+    };
+    let arg = match arg.overrides_with_all(row.over) {
+        Ok(arg) => arg,
+        Err(_) => return Err(AllocError),
+    };
     arg.conflicts_with_all(row.without)
 }
 
 /// The option of a row.
-fn option_of<'a>(alloc: Global, row: &Row<'a>) -> Result<Arg<'a>, AllocError>
+fn option_of<'a>(alloc: Global, row: &'a Row<'a>) -> Result<Arg<'a>, AllocError>
     ensures { IfOk result (λ a. option_row a ≡ row_of row.now) }
 {
-    let arg = named(alloc, row);
-    let arg = with_letters(arg, row)?;
+    let arg = unnamed(alloc, row);
+    let arg = with_long(arg, row.kind, row.id);
+    let arg = with_heading(arg, row.subject);
+    let arg = with_letter(arg, row.letter);
+    let arg = with_other_letter(arg, row.other_letter)?;
     with_others(arg, row)
 }
 
-/// Appends an option. Only this function drops an option for which there is no room.
-fn push<'a>(args: &mut Vec<Arg<'a>>, arg: Arg<'a>) -> Result<(), AllocError>
-    ensures { OnOk result (AddsOptions args.old.items args.new.items (option_row arg.entry ∷ [])) }
+/// Appends an item. Only this function drops one for which there is no room.
+fn append<T: Drop>(items: &mut Vec<T>, item: T) -> Result<(), AllocError>
+    ensures { OnOk result (items.new.items ≡ items.old.items ++ item ∷ []) }
 {
-    args.push(arg)?;
+    items.push(item)?;
     Ok(())
 }
 
 /// Appends the option of a row.
-fn push_row<'a>(alloc: Global, args: &mut Vec<Arg<'a>>, row: &Row<'a>) -> Result<(), AllocError>
+fn push_row<'a>(alloc: Global, args: &mut Vec<Arg<'a>>, row: &'a Row<'a>) -> Result<(), AllocError>
     ensures { OnOk result (AddsOptions args.old.items args.new.items (row_of row.now ∷ [])) }
 {
     let arg = option_of(alloc, row)?;
-    push(args, arg)
+    append(args, arg)?;
+    Ok(())
 }
 
 /// Appends the options of these rows.
-pub fn push_rows<'a>(
+fn push_rows<'a>(
     alloc: Global,
     args: &mut Vec<Arg<'a>>,
-    rows: &[Row<'a>],
+    rows: &'a [Row<'a>],
 ) -> Result<(), AllocError>
     ensures { OnOk result (AddsOptions args.old.items args.new.items (map row_of rows.now)) }
 {
     for row in rows {
         push_row(alloc, args, row)?;
+    }
+    Ok(())
+}
+
+/// Appends the options of these tables.
+pub fn push_tables<'a>(
+    alloc: Global,
+    args: &mut Vec<Arg<'a>>,
+    tables: &[&'a [Row<'a>]],
+) -> Result<(), AllocError>
+    ensures { OnOk result (AddsOptions args.old.items args.new.items (flat_map (λ t. map row_of t.now) tables.now)) }
+{
+    for rows in tables {
+        push_rows(alloc, args, rows)?;
     }
     Ok(())
 }

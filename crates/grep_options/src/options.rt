@@ -3,7 +3,7 @@ ghost use Rattle.std.specs.Prelude.{◌≡◌, [], OnOk, IfOk};
 ghost use Rattle.clap.specs.Words.{args_of};
 ghost use Rattle.grep_options.specs.CommandLine.{AddsOptions, option_rows, options};
 
-use crate::option_rows::push_rows;
+use crate::option_rows::push_tables;
 use crate::tables::folders::{folders, found, globs, ignoring};
 use crate::tables::inputs::{binary, inputs};
 use crate::tables::others::others;
@@ -16,19 +16,22 @@ use std::alloc::{AllocError, Global};
 fn push_all<'a>(alloc: Global, args: &mut Vec<Arg<'a>>) -> Result<(), AllocError>
     ensures { OnOk result (AddsOptions args.old.items args.new.items options) }
 {
-    push_rows(alloc, args, given_patterns())?;
-    push_rows(alloc, args, selection())?;
-    push_rows(alloc, args, printing())?;
-    push_rows(alloc, args, folders())?;
-    push_rows(alloc, args, globs())?;
-    push_rows(alloc, args, found())?;
-    push_rows(alloc, args, ignoring())?;
-    push_rows(alloc, args, pairs())?;
-    push_rows(alloc, args, binary())?;
-    push_rows(alloc, args, lines())?;
-    push_rows(alloc, args, fields())?;
-    push_rows(alloc, args, inputs())?;
-    push_rows(alloc, args, others())
+    let tables = [
+        given_patterns(),
+        selection(),
+        printing(),
+        folders(),
+        globs(),
+        found(),
+        ignoring(),
+        pairs(),
+        binary(),
+        lines(),
+        fields(),
+        inputs(),
+        others(),
+    ];
+    push_tables(alloc, args, &tables)
 }
 
 fn without_options<'a>(alloc: Global) -> Result<Command<'a>, AllocError>
