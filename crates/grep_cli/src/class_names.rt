@@ -166,8 +166,11 @@ fn misnamed_in(text: &[u8]) -> Option<Misnamed>
 {
     let mut at = 0usize;
     let mut depth = 0u64;
-    for _parts in 0..text.len() {
-        let Some((first, rest)) = text[at.min(text.len())..].split_first() else {
+    for _part in 0..text.len() {
+        let Some(left) = text.get(at..) else {
+            return None;
+        };
+        let Some((first, rest)) = left.split_first() else {
             return None;
         };
         let (len, now) = match read_part(*first, rest, depth) {
