@@ -1,5 +1,6 @@
 //! The files of folders.
-ghost use Rattle.std.specs.Prelude.{◌≡◌, ◌++◌, ◌∷◌, [], IfOk, None, OnOk, false, map, string_bytes, true};
+ghost use Rattle.std.specs.Prelude.{◌≡◌, ◌++◌, ◌∷◌, [], IfErr, IfOk, None, OnOk, Some, false, map, string_bytes, true};
+ghost use Rattle.std.specs.Fs.{IsDir, IsFile, IsSymlink, file_type, metadata_len};
 ghost use Rattle.globs.specs.Rules.{ends_in_slash};
 ghost use Rattle.grep_cli.specs.Selecting.{depth_in, enters};
 ghost use Rattle.grep_cli.specs.Entries.{is_entry, is_file, is_file_kind, is_folder, is_folder_kind, joined};
@@ -27,7 +28,13 @@ pub enum Kind {
     Device,
 }
 
-fn kind_by(metadata: &Metadata) -> Kind {
+fn kind_by(metadata: &Metadata) -> Kind
+    ensures folder { IsDir (file_type metadata.now) → result ≡ Kind.Folder }
+    ensures file { IsFile (file_type metadata.now) → result ≡ Kind.File }
+    ensures link { IsSymlink (file_type metadata.now) → result ≡ Kind.Link }
+    ensures device { ¬ IsDir (file_type metadata.now) → ¬ IsFile (file_type metadata.now) → ¬ IsSymlink (file_type metadata.now)
+        → result ≡ Kind.Device }
+{
     if metadata.is_dir() {
         return Kind::Folder;
     }
@@ -88,6 +95,17 @@ fn is_file(kind: &io::Result<Kind>) -> bool
     }
 }
 
+/// The size in bytes of a file of which the system said this, if it could.
+fn size_said(said: io::Result<Metadata>) -> Option<u64>
+    ensures known { IfOk said (λ metadata. result ≡ Some (metadata_len metadata)) }
+    ensures unknown { IfErr said (λ _. result ≡ None) }
+{
+    match said {
+        Ok(metadata) => Some(metadata.len()),
+        Err(_) => None,
+    }
+}
+
 /// The size in bytes of the file at a path, if the options give a greatest size. There is none of anything else than a file, or if the
 /// system can't say it.
 pub fn size_at(
@@ -102,10 +120,7 @@ pub fn size_at(
     if selection.max_size.is_none() || !is_file(kind) {
         return None;
     }
-    match fs::metadata(rt, path) {
-        Ok(metadata) => Some(metadata.len()),
-        Err(_) => None,
-    }
+    size_said(fs::metadata(rt, path))
 }
 
 /// A file or folder, by its device and its number there.

@@ -14,7 +14,11 @@ pub enum Stop {
 }
 
 impl From<AllocError> for Stop {
-    fn from(_e: AllocError) -> Stop {
+    ghost use Rattle.std.specs.Prelude.{◌≡◌};
+
+    fn from(_e: AllocError) -> Stop
+        ensures { result ≡ Stop.NoMemory }
+    {
         Stop::NoMemory
     }
 }
