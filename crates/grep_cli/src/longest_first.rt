@@ -1,5 +1,5 @@
 //! The order in which several strings are searched for.
-ghost use Rattle.std.specs.Prelude.{◌≡◌, OnOk, false, map, true};
+ghost use Rattle.std.specs.Prelude.{◌≡◌, OnOk, chars, false, length, map, true};
 ghost use Rattle.std.specs.List.Sorted.{IsPermutation, IsSortedBy, IsStableBy};
 ghost use Rattle.std.specs.List.{list_any};
 ghost use Rattle.std.specs.Ordering.{is_lt};
@@ -44,11 +44,18 @@ fn are_strings(patterns: &[&str]) -> bool
     !any_has_operator(patterns)
 }
 
+/// How many characters a pattern has.
+fn char_count(pattern: &str) -> usize
+    ensures { result ≡ length (chars pattern.now) }
+{
+    pattern.chars().count()
+}
+
 /// Compares two patterns by their lengths in characters. The longer one is the lesser one.
 fn compare_lengths(a: &str, b: &str) -> Ordering
     ensures { is_lt result ≡ is_longer a.now b.now }
 {
-    b.chars().count().cmp(&a.chars().count())
+    char_count(b).cmp(&char_count(a))
 }
 
 /// Puts patterns in the order of their lengths in characters, the longest first. Those of one length stay in their order.
