@@ -78,7 +78,7 @@ caret_first depth at c cs e =
 no_caret : (depth at c : ℕ) (cs : List ℕ) → (c == 94) ≡ false → fault_from Bracket depth at (c ∷ cs) ≡ fault_from Caret depth at (c ∷ cs)
 no_caret depth at c cs e =
     ap (λ t. option_or (cond (is_bracket (cond t Caret (unescaped c))) (fault_at depth at cs) None)
-      (fault_from (cond t Caret (unescaped c)) (cond (is_bracket (cond t Caret (unescaped c))) (depth + 1) depth) (at + 1) cs))
+    (fault_from (cond t Caret (unescaped c)) (cond (is_bracket (cond t Caret (unescaped c))) (depth + 1) depth) (at + 1) cs))
     e
 
 opened : (depth at : ℕ) (rest : List ℕ)
@@ -97,12 +97,17 @@ opened depth at (c ∷ cs) = go (c == 94) refl
 
 class_begins : (depth now n : ℕ) (rest : List ℕ) → n ≡ opening_len rest → now ≡ depth + 1 → ((at : ℕ) → fault_at depth at rest ≡ None)
     → Reads (Read (1 + n) now) depth (91 ∷ rest)
-class_begins depth now n rest is_len is_now none =
-    (omega arith, (omega arith, λ at.
-      ap (λ o. option_or o (fault_from Bracket (depth + 1) (at + 1) rest)) (none at)
-      ∙ (opened (depth + 1) (at + 1) rest ∙ (shifted Other (depth + 1) at (opening_len rest) 91 rest
-      ∙ (ap (λ m. fault_from Other (depth + 1) (at + (1 + m)) (drop (1 + m) (91 ∷ rest))) (sym is_len)
-      ∙ ap (λ d. fault_from Other d (at + (1 + n)) (drop (1 + n) (91 ∷ rest))) (sym is_now))))))
+class_begins depth now n rest is_len is_now none = (
+  omega arith,
+  (
+    omega arith,
+    λ at.
+        ap (λ o. option_or o (fault_from Bracket (depth + 1) (at + 1) rest)) (none at)
+        ∙ (opened (depth + 1) (at + 1) rest ∙ (shifted Other (depth + 1) at (opening_len rest) 91 rest
+        ∙ (ap (λ m. fault_from Other (depth + 1) (at + (1 + m)) (drop (1 + m) (91 ∷ rest))) (sym is_len)
+        ∙ ap (λ d. fault_from Other d (at + (1 + n)) (drop (1 + n) (91 ∷ rest))) (sym is_now)))),
+  ),
+)
 
 -- ---- brackets outside of classes
 
@@ -187,7 +192,7 @@ fault_in : (depth at : ℕ) (rest : List ℕ) (named known : Bool) → 0 < depth
     → fault_at depth at rest ≡ cond (named && not known) (Some (Unknown at)) None
 fault_in depth at rest named known h e f =
     ap (λ t. cond t (cond (has_name (without_first 94 rest)) (Some Outside) None)
-      (cond (has_name rest && not (is_known (name_in rest))) (Some (Unknown at)) None))
+    (cond (has_name rest && not (is_known (name_in rest))) (Some (Unknown at)) None))
     (is_apart depth 0 h)
     ∙ (ap (λ t. cond (t && not (is_known (name_in rest))) (Some (Unknown at)) None) e ∙ ap (λ t. cond (named && not t) (Some (Unknown at)) None) f)
 
@@ -209,11 +214,16 @@ pub inner_known : (depth n : ℕ) (rest name : List ℕ) → 0 < depth → n ≡
     → true ≡ is_known name
     → Reads (Read (n + 4) depth) depth (91 ∷ rest)
 inner_known depth n rest name inside is_len some is_name known =
-    let named = is_named n rest is_len some in
-    (omega arith, (omega arith, λ at.
-      ap (λ o. option_or o (fault_from Bracket (depth + 1) (at + 1) rest))
-      (fault_in depth at rest true true inside (some_name n rest is_len some) (known_in n rest name true is_len is_name known))
-      ∙ name_on depth at n rest named))
+    let named = is_named n rest is_len some in (
+      omega arith,
+      (
+        omega arith,
+        λ at.
+            ap (λ o. option_or o (fault_from Bracket (depth + 1) (at + 1) rest))
+            (fault_in depth at rest true true inside (some_name n rest is_len some) (known_in n rest name true is_len is_name known))
+            ∙ name_on depth at n rest named,
+      ),
+    )
 
 pub inner_unknown : (depth n : ℕ) (rest name : List ℕ) → 0 < depth → n ≡ name_len rest → 0 < n → name ≡ take n (drop 1 rest)
     → false ≡ is_known name

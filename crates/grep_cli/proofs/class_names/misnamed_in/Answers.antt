@@ -15,7 +15,7 @@ loop-part-preserved c =
     let more = reads.1.0 in
     record {
       found = rw c.saturating_add-at.ensures
-        (read_on c.loop-part.depth c.in-Read.now c.loop-part.at c.in-Read.len 18446744073709551615 c.args.text.now (first ∷ rest) _ cut reads few
+          (read_on c.loop-part.depth c.in-Read.now c.loop-part.at c.in-Read.len 18446744073709551615 c.args.text.now (first ∷ rest) _ cut reads few
           c.loop-part.invariant.found);
       far = omega arith;
       few = omega arith;

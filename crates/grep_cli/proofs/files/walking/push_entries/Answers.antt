@@ -7,17 +7,13 @@ use Rattle.grep_cli.proofs.files.walking.push_entries.Goals as goal
 
 pub returns-clause-paths : goal.returns-clause-paths
 returns-clause-paths c =
-    let names = YieldsList-from_slice_split _ _ c.args.names.now c.split-name-items.ensures.rest c.split-name-items.ensures.done
-    c.split-name-items.ensures.closure
-    (λ x r q k. search (rules, tests)) in
+    let names = YieldsList-from_slice_split _ _ c.args.names.now (cc) (cc) (cc) (λ x r q k. search (rules, tests)) in
     let all = YieldsList-end names c.loop-name.yielded _ c.loop-name.yielded_by _ _ c.in-None.is c.next.ensures.steps in
     c.loop-name.invariant.paths
     ∙ ap (λ ls. map string_bytes c.args.paths.now.items ++ flat_map (entry_paths c.args.folder.now) ls) all.0
 
 pub returns-clause-recorded : goal.returns-clause-recorded
 returns-clause-recorded c =
-    let names = YieldsList-from_slice_split _ _ c.args.names.now c.split-name-items.ensures.rest c.split-name-items.ensures.done
-    c.split-name-items.ensures.closure
-    (λ x r q k. search (rules, tests)) in
+    let names = YieldsList-from_slice_split _ _ c.args.names.now (cc) (cc) (cc) (λ x r q k. search (rules, tests)) in
     let all = YieldsList-end names c.loop-name.yielded _ c.loop-name.yielded_by _ _ c.in-None.is c.next.ensures.steps in
     c.loop-name.invariant.recorded ∙ ap (λ ls. c.args.failed.now || list_any has_no_path ls) all.0
