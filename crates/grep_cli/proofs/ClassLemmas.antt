@@ -8,7 +8,7 @@ use Rattle.std.proofs.lemmas.List.{drop_all, length-drop}
 use Rattle.std.specs.List.{starts_with}
 use Rattle.std.specs.Char.{is_ascii_lowercase}
 use Rattle.globs.specs.Rules.{begins, without_first}
-use Rattle.grep_cli.specs.ClassNames.{Last, Bracket, Caret, Other, fault_at, fault_from, has_flags, has_name, is_bracket, is_known, letters_len, name_in, name_len, open_after, unescaped}
+use Rattle.grep_cli.specs.ClassNames.{Last, Bracket, Caret, Other, fault_at, fault_from, has_flags, has_name, is_bracket, is_class_name, letters_len, class_name_in, name_len, open_after, last_by}
 use Rattle.grep_cli.specs.ClassParts.{Reads, flag, opening_len}
 use Rattle.grep_cli.specs.declared.class_names.Misnamed.{Misnamed}
 use Rattle.grep_cli.specs.declared.class_names.Misnamed.TheVariants.{Outside, Unknown}
@@ -52,7 +52,7 @@ closing_first depth at d ds e =
     refl
 
 same_open : (depth d : ℕ) → (d == 93) ≡ false → open_after Caret depth d ≡ open_after Other depth d
-same_open depth d e = ap (λ t. cond (is_bracket (unescaped d)) (depth + 1) (cond t (depth - 1) depth)) (sym e)
+same_open depth d e = ap (λ t. cond (is_bracket (last_by d)) (depth + 1) (cond t (depth - 1) depth)) (sym e)
 
 after_caret : (depth at : ℕ) (cs : List ℕ)
     → fault_from Caret depth at cs ≡ fault_from Other depth (at + flag (begins 93 cs)) (drop (flag (begins 93 cs)) cs)
@@ -63,7 +63,7 @@ after_caret depth at (d ∷ ds) = go (d == 93) refl
         → fault_from Caret depth at (d ∷ ds) ≡ fault_from Other depth (at + flag (d == 93)) (drop (flag (d == 93)) (d ∷ ds))
     go true e = closing_first depth at d ds (same_byte d 93 e)
     go false e =
-        ap (λ o. option_or (cond (is_bracket (unescaped d)) (fault_at depth at ds) None) (fault_from (unescaped d) o (at + 1) ds))
+        ap (λ o. option_or (cond (is_bracket (last_by d)) (fault_at depth at ds) None) (fault_from (last_by d) o (at + 1) ds))
         (same_open depth d e)
         ∙ (ap (λ k. fault_from Other depth k (d ∷ ds)) (sym (add-zero at))
         ∙ ap (λ t. fault_from Other depth (at + flag t) (drop (flag t) (d ∷ ds))) (sym e))
@@ -77,8 +77,8 @@ caret_first depth at c cs e =
 
 no_caret : (depth at c : ℕ) (cs : List ℕ) → (c == 94) ≡ false → fault_from Bracket depth at (c ∷ cs) ≡ fault_from Caret depth at (c ∷ cs)
 no_caret depth at c cs e =
-    ap (λ t. option_or (cond (is_bracket (cond t Caret (unescaped c))) (fault_at depth at cs) None)
-    (fault_from (cond t Caret (unescaped c)) (cond (is_bracket (cond t Caret (unescaped c))) (depth + 1) depth) (at + 1) cs))
+    ap (λ t. option_or (cond (is_bracket (cond t Caret (last_by c))) (fault_at depth at cs) None)
+    (fault_from (cond t Caret (last_by c)) (cond (is_bracket (cond t Caret (last_by c))) (depth + 1) depth) (at + 1) cs))
     e
 
 opened : (depth at : ℕ) (rest : List ℕ)
@@ -188,13 +188,13 @@ name_on depth at n rest named =
     ∙ (λ i. fault_from Other (off i) (on i) (far i))))
 
 -- What is found at a bracket in a class.
-fault_in : (depth at : ℕ) (rest : List ℕ) (named known : Bool) → 0 < depth → has_name rest ≡ named → is_known (name_in rest) ≡ known
+fault_in : (depth at : ℕ) (rest : List ℕ) (named known : Bool) → 0 < depth → has_name rest ≡ named → is_class_name (class_name_in rest) ≡ known
     → fault_at depth at rest ≡ cond (named && not known) (Some (Unknown at)) None
 fault_in depth at rest named known h e f =
     ap (λ t. cond t (cond (has_name (without_first 94 rest)) (Some Outside) None)
-    (cond (has_name rest && not (is_known (name_in rest))) (Some (Unknown at)) None))
+    (cond (has_name rest && not (is_class_name (class_name_in rest))) (Some (Unknown at)) None))
     (is_apart depth 0 h)
-    ∙ (ap (λ t. cond (t && not (is_known (name_in rest))) (Some (Unknown at)) None) e ∙ ap (λ t. cond (named && not t) (Some (Unknown at)) None) f)
+    ∙ (ap (λ t. cond (t && not (is_class_name (class_name_in rest))) (Some (Unknown at)) None) e ∙ ap (λ t. cond (named && not t) (Some (Unknown at)) None) f)
 
 pub inner_class : (depth now n len : ℕ) (rest : List ℕ) → 0 < depth → n ≡ name_len rest → n ≡ 0 → len ≡ opening_len rest → now ≡ depth + 1
     → Reads (Read (1 + len) now) depth (91 ∷ rest)
@@ -202,16 +202,16 @@ inner_class depth now n len rest inside is_len none is_opening is_now =
     let no_name : has_name rest ≡ false = ap (λ m. nat_lt 0 m) (sym is_len ∙ none) in
     class_begins depth now len rest is_opening is_now (λ at. fault_in depth at rest false _ inside no_name refl)
 
-known_in : (n : ℕ) (rest name : List ℕ) (known : Bool) → n ≡ name_len rest → name ≡ take n (drop 1 rest) → known ≡ is_known name
-    → is_known (name_in rest) ≡ known
+known_in : (n : ℕ) (rest name : List ℕ) (known : Bool) → n ≡ name_len rest → name ≡ take n (drop 1 rest) → known ≡ is_class_name name
+    → is_class_name (class_name_in rest) ≡ known
 known_in n rest name known is_len is_name e =
-    ap (λ m. is_known (take m (drop 1 rest))) (sym is_len) ∙ (ap is_known (sym is_name) ∙ sym e)
+    ap (λ m. is_class_name (take m (drop 1 rest))) (sym is_len) ∙ (ap is_class_name (sym is_name) ∙ sym e)
 
 some_name : (n : ℕ) (rest : List ℕ) → n ≡ name_len rest → 0 < n → has_name rest ≡ true
 some_name n rest is_len some = ap (λ m. nat_lt 0 m) (sym is_len) ∙ is_some n some
 
 pub inner_known : (depth n : ℕ) (rest name : List ℕ) → 0 < depth → n ≡ name_len rest → 0 < n → name ≡ take n (drop 1 rest)
-    → true ≡ is_known name
+    → true ≡ is_class_name name
     → Reads (Read (n + 4) depth) depth (91 ∷ rest)
 inner_known depth n rest name inside is_len some is_name known =
     let named = is_named n rest is_len some in (
@@ -226,7 +226,7 @@ inner_known depth n rest name inside is_len some is_name known =
     )
 
 pub inner_unknown : (depth n : ℕ) (rest name : List ℕ) → 0 < depth → n ≡ name_len rest → 0 < n → name ≡ take n (drop 1 rest)
-    → false ≡ is_known name
+    → false ≡ is_class_name name
     → Reads Unnamed depth (91 ∷ rest)
 inner_unknown depth n rest name inside is_len some is_name unknown at =
     ap (λ o. option_or o (fault_from Bracket (depth + 1) (at + 1) rest))

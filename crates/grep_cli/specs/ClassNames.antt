@@ -16,8 +16,8 @@ known_names =
     codes "alnum" ∷ codes "alpha" ∷ codes "ascii" ∷ codes "blank" ∷ codes "cntrl" ∷ codes "digit" ∷ codes "graph" ∷ codes "lower"
     ∷ codes "print" ∷ codes "punct" ∷ codes "space" ∷ codes "upper" ∷ codes "word" ∷ codes "xdigit" ∷ []
 
-abbrev pub is_known : List ℕ → Bool
-is_known name = list_any (λ known. pointwise nat_eq known name) known_names
+abbrev pub is_class_name : List ℕ → Bool
+is_class_name name = list_any (λ known. pointwise nat_eq known name) known_names
 
 -- how many small letters a text begins with
 abbrev pub letters_len : List ℕ → ℕ
@@ -32,8 +32,8 @@ name_len (c ∷ cs) = if c == 58 && starts_with nat_eq (drop (letters_len cs) cs
 abbrev pub has_name : List ℕ → Bool
 has_name text = nat_lt 0 (name_len text)
 
-abbrev pub name_in : List ℕ → List ℕ
-name_in text = take (name_len text) (drop 1 text)
+abbrev pub class_name_in : List ℕ → List ℕ
+class_name_in text = take (name_len text) (drop 1 text)
 
 -- ---- brackets
 
@@ -50,14 +50,14 @@ is_bracket Caret = false
 is_bracket Backslash = false
 is_bracket Other = false
 
-abbrev pub unescaped : ℕ → Last
-unescaped c = if c == 91 then Bracket else if c == 92 then Backslash else Other
+abbrev pub last_by : ℕ → Last
+last_by c = if c == 91 then Bracket else if c == 92 then Backslash else Other
 
 abbrev pub next : Last → ℕ → Last
-next Bracket c = if c == 94 then Caret else unescaped c
-next Caret c = unescaped c
+next Bracket c = if c == 94 then Caret else last_by c
+next Caret c = last_by c
 next Backslash c = Other
-next Other c = unescaped c
+next Other c = last_by c
 
 -- A closing bracket ends a class. It doesn't if it is the first character of one.
 abbrev pub is_end : Last → ℕ → Bool
@@ -77,7 +77,7 @@ open_after last depth c = if is_bracket (next last c) then depth + 1 else if is_
 abbrev pub fault_at : ℕ → ℕ → List ℕ → Option Misnamed
 fault_at depth at rest =
     if depth == 0 then (if has_name (without_first 94 rest) then Some Outside else None)
-    else if has_name rest && not (is_known (name_in rest)) then Some (Unknown at) else None
+    else if has_name rest && not (is_class_name (class_name_in rest)) then Some (Unknown at) else None
 
 -- The first fault of the rest of a pattern, which begins at this offset in `depth` classes.
 abbrev pub fault_from : Last → ℕ → ℕ → List ℕ → Option Misnamed

@@ -3,7 +3,7 @@ ghost use Rattle.std.specs.Prelude.{◌≡◌, ◌≤◌, ◌<◌, ◌-◌, ◌^
 ghost use Rattle.std.specs.List.{list_any};
 ghost use Rattle.std.specs.Cmp.Lexicographic.{pointwise};
 ghost use Rattle.globs.specs.Rules.{begins, without_first};
-ghost use Rattle.grep_cli.specs.ClassNames.{Other, fault_from, first_misnamed, has_flags, is_known, letters_len, may_have_comments, name_len};
+ghost use Rattle.grep_cli.specs.ClassNames.{Other, fault_from, first_misnamed, has_flags, is_class_name, letters_len, may_have_comments, name_len};
 ghost use Rattle.grep_cli.specs.ClassParts.{Reads, opening_len};
 
 /// The names of classes.
@@ -88,7 +88,7 @@ fn is_among(names: &[&str], name: &[u8]) -> bool
 
 /// Whether a class has this name.
 fn is_known(name: &[u8]) -> bool
-    ensures { result ≡ is_known name.now }
+    ensures { result ≡ is_class_name name.now }
 {
     is_among(&NAMES, name)
 }
@@ -145,8 +145,8 @@ fn read_part(first: u8, rest: &[u8], depth: u64) -> Part
 fn has_flags(text: &[u8]) -> bool
     ensures { result ≡ has_flags text.now }
 {
-    for at in 0..text.len() {
-        if text[at..].starts_with(b"(?") {
+    for from in 0..text.len() {
+        if text[from..].starts_with(b"(?") {
             return true;
         }
     }

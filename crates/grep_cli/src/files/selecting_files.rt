@@ -1,5 +1,5 @@
 //! Which files are searched, by the options on their names and paths.
-ghost use Rattle.std.specs.Prelude.{◌≡◌, ◌++◌, ◌∷◌, [], ℕ, true, false, List, None, IfErr, IfOk, IfSome, OnOk, codes, is_none, is_some, length, map};
+ghost use Rattle.std.specs.Prelude.{◌≡◌, ◌⊎◌, ◌++◌, ◌∷◌, [], ℕ, true, false, List, None, IfErr, IfOk, IfSome, OnOk, codes, is_none, is_some, length, map};
 ghost use Rattle.std.specs.List.{list_any};
 ghost use Rattle.std.specs.Str.{chars};
 ghost use Rattle.clap.specs.Words.{first_value, found_of};
@@ -696,9 +696,10 @@ pub fn selection_given(
     reports_input: bool,
     matches: &ArgMatches<'_>,
 ) -> Result<Selection, Stop>
-    ensures { (rows : List TypeRow) × (IfOk result (λ s.
+    ensures given { (rows : List TypeRow) × (IfOk result (λ s.
         IsGiven (found_of matches.now) (types_in_force (found_of matches.now) rows) (selection s))
         × (chooses_surely (found_of matches.now) rows ≡ true → IfErr result (λ e. e ≡ Stop.NoMemory))) }
+    ensures status { IfErr result (λ e. (e ≡ Stop.With 2) ⊎ (e ≡ Stop.NoMemory)) }
 {
     match selection_by(rt, reports_input, known_types(), matches) {
         Ok(Some(selection)) => Ok(selection),

@@ -19,7 +19,7 @@ impl From<AllocError> for Stop {
     fn from(_e: AllocError) -> Stop
         ensures { result ≡ Stop.NoMemory }
     {
-        Stop::NoMemory
+        Self::NoMemory
     }
 }
 
