@@ -9,7 +9,7 @@ use Rattle.std.specs.List.{starts_with}
 use Rattle.std.specs.Char.{is_ascii_lowercase}
 use Rattle.globs.specs.Rules.{begins, without_first}
 use Rattle.grep_cli.specs.ClassNames.{Last, Bracket, Caret, Other, fault_at, fault_from, has_flags, has_name, is_bracket, is_class_name, letters_len, class_name_in, name_len, open_after, last_by}
-use Rattle.grep_cli.specs.ClassParts.{Reads, flag, opening_len}
+use Rattle.grep_cli.specs.ClassParts.{Reads, one_if, opening_len}
 use Rattle.grep_cli.specs.declared.class_names.Misnamed.{Misnamed}
 use Rattle.grep_cli.specs.declared.class_names.Misnamed.TheVariants.{Outside, Unknown}
 use Rattle.grep_cli.specs.declared.class_names.Part.TheVariants.{Read, Unbracketed, Unnamed}
@@ -45,9 +45,9 @@ shifted last depth at n c cs =
 -- ---- the beginning of a class
 
 closing_first : (depth at d : ℕ) (ds : List ℕ) → d ≡ 93
-    → fault_from Caret depth at (d ∷ ds) ≡ fault_from Other depth (at + flag (d == 93)) (drop (flag (d == 93)) (d ∷ ds))
+    → fault_from Caret depth at (d ∷ ds) ≡ fault_from Other depth (at + one_if (d == 93)) (drop (one_if (d == 93)) (d ∷ ds))
 closing_first depth at d ds e =
-    subst (λ (d : ℕ). fault_from Caret depth at (d ∷ ds) ≡ fault_from Other depth (at + flag (d == 93)) (drop (flag (d == 93)) (d ∷ ds)))
+    subst (λ (d : ℕ). fault_from Caret depth at (d ∷ ds) ≡ fault_from Other depth (at + one_if (d == 93)) (drop (one_if (d == 93)) (d ∷ ds)))
     (sym e)
     refl
 
@@ -55,25 +55,25 @@ same_open : (depth d : ℕ) → (d == 93) ≡ false → open_after Caret depth d
 same_open depth d e = ap (λ t. cond (is_bracket (last_by d)) (depth + 1) (cond t (depth - 1) depth)) (sym e)
 
 after_caret : (depth at : ℕ) (cs : List ℕ)
-    → fault_from Caret depth at cs ≡ fault_from Other depth (at + flag (begins 93 cs)) (drop (flag (begins 93 cs)) cs)
+    → fault_from Caret depth at cs ≡ fault_from Other depth (at + one_if (begins 93 cs)) (drop (one_if (begins 93 cs)) cs)
 after_caret depth at [] = refl
 after_caret depth at (d ∷ ds) = go (d == 93) refl
   where
     go : (t : Bool) → (d == 93) ≡ t
-        → fault_from Caret depth at (d ∷ ds) ≡ fault_from Other depth (at + flag (d == 93)) (drop (flag (d == 93)) (d ∷ ds))
+        → fault_from Caret depth at (d ∷ ds) ≡ fault_from Other depth (at + one_if (d == 93)) (drop (one_if (d == 93)) (d ∷ ds))
     go true e = closing_first depth at d ds (same_byte d 93 e)
     go false e =
         ap (λ o. option_or (cond (is_bracket (last_by d)) (fault_at depth at ds) None) (fault_from (last_by d) o (at + 1) ds))
         (same_open depth d e)
         ∙ (ap (λ k. fault_from Other depth k (d ∷ ds)) (sym (add-zero at))
-        ∙ ap (λ t. fault_from Other depth (at + flag t) (drop (flag t) (d ∷ ds))) (sym e))
+        ∙ ap (λ t. fault_from Other depth (at + one_if t) (drop (one_if t) (d ∷ ds))) (sym e))
 
 caret_first : (depth at c : ℕ) (cs : List ℕ) → c ≡ 94
     → fault_from Bracket depth at (c ∷ cs) ≡ fault_from Other depth (at + opening_len (c ∷ cs)) (drop (opening_len (c ∷ cs)) (c ∷ cs))
 caret_first depth at c cs e =
     subst (λ (c : ℕ). fault_from Bracket depth at (c ∷ cs) ≡ fault_from Other depth (at + opening_len (c ∷ cs)) (drop (opening_len (c ∷ cs)) (c ∷ cs)))
     (sym e)
-    (after_caret depth (at + 1) cs ∙ shifted Other depth at (flag (begins 93 cs)) 94 cs)
+    (after_caret depth (at + 1) cs ∙ shifted Other depth at (one_if (begins 93 cs)) 94 cs)
 
 no_caret : (depth at c : ℕ) (cs : List ℕ) → (c == 94) ≡ false → fault_from Bracket depth at (c ∷ cs) ≡ fault_from Caret depth at (c ∷ cs)
 no_caret depth at c cs e =
@@ -90,8 +90,8 @@ opened depth at (c ∷ cs) = go (c == 94) refl
         → fault_from Bracket depth at (c ∷ cs) ≡ fault_from Other depth (at + opening_len (c ∷ cs)) (drop (opening_len (c ∷ cs)) (c ∷ cs))
     go true e = caret_first depth at c cs (same_byte c 94 e)
     go false e =
-        let len : flag (c == 93) ≡ opening_len (c ∷ cs) =
-        sym (zero-add (flag (c == 93))) ∙ ap (λ t. flag t + flag (begins 93 (cond t cs (c ∷ cs)))) (sym e) in
+        let len : one_if (c == 93) ≡ opening_len (c ∷ cs) =
+        sym (zero-add (one_if (c == 93))) ∙ ap (λ t. one_if t + one_if (begins 93 (cond t cs (c ∷ cs)))) (sym e) in
         no_caret depth at c cs e
         ∙ (after_caret depth at (c ∷ cs) ∙ ap (λ k. fault_from Other depth (at + k) (drop k (c ∷ cs))) len)
 

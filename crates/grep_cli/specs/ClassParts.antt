@@ -6,13 +6,13 @@ use Rattle.grep_cli.specs.declared.class_names.Misnamed.TheVariants.{Outside, Un
 use Rattle.grep_cli.specs.declared.class_names.Part.{Part}
 use Rattle.grep_cli.specs.declared.class_names.Part.TheVariants.{Read, Unbracketed, Unnamed}
 
-abbrev pub flag : Bool → ℕ
-flag true = 1
-flag false = 0
+abbrev pub one_if : Bool → ℕ
+one_if true = 1
+one_if false = 0
 
 -- How many bytes after a bracket belong to the beginning of a class: a caret, and a closing bracket that is its first character.
 abbrev pub opening_len : List ℕ → ℕ
-opening_len rest = flag (begins 94 rest) + flag (begins 93 (without_first 94 rest))
+opening_len rest = one_if (begins 94 rest) + one_if (begins 93 (without_first 94 rest))
 
 -- What a part that the pattern begins with says of its first fault. `depth` classes are open before it, and `now` after it.
 abbrev pub Reads : Part → ℕ → List ℕ → Type 0
