@@ -117,12 +117,6 @@ outer_class n len rest text cut is_len none is_opening =
     let zero_len : name_len (without_first 94 rest) ≡ 0 = ap name_len (sym cut) ∙ (sym is_len ∙ omega arith) in
     class_begins 0 1 len rest is_opening refl (λ at. rw zero_len refl)
 
-pub outer_name : (n : ℕ) (rest text : List ℕ) → text ≡ without_first 94 rest → n ≡ name_len text → 0 < n → Reads Unbracketed 0 (91 ∷ rest)
-outer_name n rest text cut is_len some at =
-    let test : nat_lt 0 (name_len (without_first 94 rest)) ≡ true =
-    ap (λ m. nat_lt 0 m) (ap name_len (sym cut) ∙ sym is_len) ∙ is_some n some in
-    rw test refl
-
 -- ---- names in classes
 
 plain_step : (depth at c : ℕ) (cs : List ℕ) → 96 < c → fault_from Other depth at (c ∷ cs) ≡ fault_from Other depth (at + 1) cs

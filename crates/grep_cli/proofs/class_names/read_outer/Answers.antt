@@ -1,4 +1,4 @@
-use Rattle.grep_cli.proofs.ClassLemmas.{outer_class, outer_name}
+use Rattle.grep_cli.proofs.ClassLemmas.{outer_class}
 use Rattle.grep_cli.proofs.class_names.read_outer.Goals as goal
 
 pub returns : goal.returns
