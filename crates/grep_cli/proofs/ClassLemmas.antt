@@ -12,7 +12,7 @@ use Rattle.grep_cli.specs.ClassNames.{Last, Bracket, Caret, Other, fault_at, fau
 use Rattle.grep_cli.specs.ClassParts.{Reads, one_if, opening_len}
 use Rattle.grep_cli.specs.declared.class_names.Misnamed.{Misnamed}
 use Rattle.grep_cli.specs.declared.class_names.Misnamed.TheVariants.{Outside, Unknown}
-use Rattle.grep_cli.specs.declared.class_names.Part.TheVariants.{Read, Unbracketed, Unnamed}
+use Rattle.grep_cli.specs.declared.class_names.Part.TheVariants.{Read, Unnamed}
 
 -- ---- tests
 
