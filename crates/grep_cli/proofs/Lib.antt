@@ -1,3 +1,4 @@
+pub mod ClassLemmas
 mod SelectingLemmas
 mod SureLemmas
 pub mod FirstLemmas

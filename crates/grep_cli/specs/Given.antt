@@ -1,5 +1,5 @@
 -- The patterns and the files that a command line gives.
-use Rattle.std.specs.Prelude.{◌≡◌, ℕ, ◌==◌, Bool, ◌||◌, List, [], ◌∷◌, ◌++◌, length, codes, is_some, if◌then◌else◌}
+use Rattle.std.specs.Prelude.{◌≡◌, ℕ, ◌==◌, Bool, ◌||◌, List, [], ◌∷◌, ◌++◌, drop, length, codes, is_some, Option, Some, None, if◌then◌else◌}
 use Rattle.std.specs.List.{flat_map, slice_split}
 use Rattle.std.specs.Str.Lines.{lines}
 use Rattle.clap.specs.Words.{matched_of}
@@ -32,3 +32,13 @@ gives_patterns f = is_some (matched_of f (codes "regexp")) || is_some (matched_o
 abbrev pub ArePatterns : Bool → Found → List (List ℕ) → Type 0
 ArePatterns crlf f patterns = (texts : List (List ℕ)) × (length texts ≡ length (values_given f (codes "file")))
     × (patterns ≡ flat_map lines_as_patterns (values_given f (codes "regexp")) ++ flat_map (patterns_of_file crlf) texts)
+
+-- The patterns in the first operand, one on each line, if there is an operand.
+abbrev pub operand_patterns : List (List ℕ) → Option (List (List ℕ))
+operand_patterns [] = None
+operand_patterns (word ∷ words) = Some (lines_as_patterns word)
+
+-- The operands that name files. Without -e and -f the first operand is a pattern, unless files are listed.
+abbrev pub files_named : Found → Bool → List (List ℕ)
+files_named f lists =
+    if lists || gives_patterns f then values_given f (codes "words") else drop 1 (values_given f (codes "words"))

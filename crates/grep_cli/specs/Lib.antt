@@ -1,3 +1,5 @@
+pub mod ClassNames
+pub mod ClassParts
 pub mod Counting
 pub mod Entries
 pub mod FileTypes

@@ -1,5 +1,5 @@
 -- Types of files that options change.
-use Rattle.std.specs.Prelude.{ℕ, ◌+◌, ◌==◌, Bool, true, false, ◌&&◌, ◌||◌, not, nat_lt, List, [], ◌∷◌, ◌++◌, codes, drop, length, take, is_some, if◌then◌else◌}
+use Rattle.std.specs.Prelude.{ℕ, ◌+◌, ◌==◌, Bool, true, false, ◌&&◌, ◌||◌, not, nat_lt, List, [], ◌∷◌, ◌++◌, codes, drop, length, nat_eq, take, is_some, if◌then◌else◌}
 use Rattle.std.specs.List.{flat_map, list_any, slice_split}
 use Rattle.std.specs.Str.{bytes_eq, chars}
 use Rattle.clap.specs.Words.{first_value}
@@ -7,7 +7,7 @@ use Rattle.clap.specs.declared.parser.matches.Found.{Found}
 use Rattle.globs.specs.Rules.{is_type_glob}
 use Rattle.grep_options.specs.Options.{values_given}
 use Rattle.grep_cli.specs.FileTypes.{TypeRow, of_type}
-use Rattle.grep_cli.specs.Selecting.{are_types}
+use Rattle.grep_cli.specs.Selecting.{are_types, ignore_files, is_sure}
 
 -- ---- types that are cleared
 
@@ -96,3 +96,13 @@ types_changed f rows = with_definitions (types_kept (values_given f (codes "type
 
 abbrev pub gives_definitions : Found → List TypeRow → Bool
 gives_definitions f rows = are_definitions (types_kept (values_given f (codes "type-clear")) rows) (values_given f (codes "type-add"))
+
+-- The types that options choose files by, if these are the ones without options.
+abbrev pub types_in_force : Found → List TypeRow → List TypeRow
+types_in_force f rows = if changes_types f then types_changed f rows else rows
+
+-- The options choose files whatever the system does: no file of rules is named, each glob, size and definition can be read and each type is
+-- known.
+abbrev pub chooses_surely : Found → List TypeRow → Bool
+chooses_surely f rows =
+    (not (changes_types f) || gives_definitions f rows) && (is_sure f (types_in_force f rows) && nat_eq (length (ignore_files f)) 0)

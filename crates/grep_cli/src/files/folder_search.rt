@@ -1,5 +1,6 @@
 //! How folders are searched, and how failures there are recorded.
 ghost use Rattle.std.specs.Prelude.{◌≡◌, true};
+ghost use Rattle.grep_cli.specs.Entries.{shown_name};
 
 use crate::files::selecting_files::Selection;
 use crate::results::messages::{report_error, report_reason};
@@ -19,7 +20,9 @@ pub struct FolderSearch<'a> {
 }
 
 /// The name that is printed for the file at a path. If `bare`, it is relative to the current folder.
-pub fn shown_name<'a>(bare: bool, path: &'a str) -> &'a str {
+pub fn shown_name<'a>(bare: bool, path: &'a str) -> &'a str
+    ensures { result.now ≡ shown_name bare path.now }
+{
     if !bare {
         return path;
     }

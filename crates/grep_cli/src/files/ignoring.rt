@@ -1,5 +1,5 @@
 //! The ignore files of the folders that are searched, and of those above them.
-ghost use Rattle.std.specs.Prelude.{◌≡◌, None, Ok, IfErr, IfOk, IfSome, OnOk, false, map, string_bytes, true};
+ghost use Rattle.std.specs.Prelude.{◌≡◌, None, Ok, IfErr, IfOk, IfSome, OnOk, false, length, map, string_bytes, true};
 ghost use Rattle.std.specs.Str.{chars};
 ghost use Rattle.globs.specs.Ignoring.{ignored, level_of, with_text};
 ghost use Rattle.globs.specs.Paths.{full_path};
@@ -257,6 +257,8 @@ impl IgnoreFiles {
         root: &str,
     ) -> Result<IgnoreFiles, AllocError>
         ensures unread { folders.entry.selection.now.ignoring.reads ≡ false → failed.new ≡ failed.old }
+        ensures root { folders.entry.selection.now.ignoring.reads ≡ true → IfOk result (λ files. files.root.items ≡ chars root.now) }
+        ensures outer { IfOk result (λ files. files.outer ≡ length files.levels.items) }
         ensures continues { failed.old ≡ true → failed.new ≡ true }
     {
         let mut levels = Vec::new(rt.alloc());
@@ -297,7 +299,7 @@ impl IgnoreFiles {
         root: &str,
         path: &str,
     ) -> Result<(), AllocError>
-        ensures paths { (self.new.full ≡ self.old.full) × (self.new.root ≡ self.old.root) }
+        ensures paths { (self.new.full ≡ self.old.full) × (self.new.root ≡ self.old.root) × (self.new.outer ≡ self.old.outer) }
         ensures continues { failed.old ≡ true → failed.new ≡ true }
     {
         let depth = self.outer.saturating_add(depth_in(root, path));
@@ -332,6 +334,7 @@ impl IgnoreFiles {
         ensures said { folders.entry.selection.now.ignoring.reads ≡ true → IfOk result (λ known.
             known ≡ ignored folders.entry.selection.now.ignoring.needs_tree (map level_of self.new.levels.items) is_folder
             (full_path self.old.full.items self.old.root.items (chars path.now))) }
+        ensures paths { (self.new.full ≡ self.old.full) × (self.new.root ≡ self.old.root) × (self.new.outer ≡ self.old.outer) }
         ensures continues { failed.old ≡ true → failed.new ≡ true }
     {
         let reads = folders.selection.ignoring;

@@ -1,5 +1,5 @@
 //! Which files are searched, by the options on their names and paths.
-ghost use Rattle.std.specs.Prelude.{◌≡◌, ◌++◌, ◌∷◌, [], ℕ, true, false, List, None, IfOk, IfSome, OnOk, codes, is_none, is_some, length, map};
+ghost use Rattle.std.specs.Prelude.{◌≡◌, ◌⊎◌, ◌++◌, ◌∷◌, [], ℕ, true, false, List, None, IfErr, IfOk, IfSome, OnOk, codes, is_none, is_some, length, map};
 ghost use Rattle.std.specs.List.{list_any};
 ghost use Rattle.std.specs.Str.{chars};
 ghost use Rattle.clap.specs.Words.{first_value, found_of};
@@ -12,7 +12,8 @@ ghost use Rattle.grep_cli.specs.Selecting.{gives_globs, globs_given, globs_say, 
 ghost use Rattle.grep_cli.specs.Selecting.{gives_size, has_type, ignores_say, is_hidden, is_keeping, is_too_large, size_given, skips_hidden};
 ghost use Rattle.grep_cli.specs.Ignores.{ignoring_given};
 ghost use Rattle.grep_cli.specs.Selecting.{are_types, gives_types, named_types, types_given};
-ghost use Rattle.grep_cli.specs.FileTypes.{is_type, of_type, rows_of, type_rules};
+ghost use Rattle.grep_cli.specs.FileTypes.{TypeRow, is_type, of_type, rows_of, type_rules};
+ghost use Rattle.grep_cli.specs.TypeChanges.{chooses_surely, types_in_force};
 
 use crate::files::path_names::{begins_with_dot, is_name};
 use crate::files::rule_files::{push_file, push_ignore_files, push_rule};
@@ -667,23 +668,42 @@ fn selection_of(
     Ok(Some(selection))
 }
 
+/// What the options choose, by these types of files as options change them. If an option has a fault or names a file that can't be read,
+/// reports it and returns none.
+fn selection_by(
+    rt: &HostRuntime,
+    reports_input: bool,
+    types: &[(&'static str, &'static str)],
+    matches: &ArgMatches<'_>,
+) -> Result<Option<Selection>, AllocError>
+    ensures rules { IfOk result (λ o. IfSome o (λ s.
+        IsGiven (found_of matches.now) (types_in_force (found_of matches.now) (rows_of types.now)) (selection s))) }
+    ensures sure { IfOk result (λ o. chooses_surely (found_of matches.now) (rows_of types.now) ≡ true → is_some o ≡ true) }
+{
+    if !changes_types(matches) {
+        return selection_of(rt, reports_input, types, matches);
+    }
+    match types_changed(rt, types, matches)? {
+        Some(types) => selection_of(rt, reports_input, &types, matches),
+        None => Ok(None),
+    }
+}
+
 /// What the options choose, by the types of files as options change them. If an option has a fault or names a file that can't be read,
 /// reports it.
 pub fn selection_given(
     rt: &HostRuntime,
     reports_input: bool,
     matches: &ArgMatches<'_>,
-) -> Result<Selection, Stop> {
-    let selection = if changes_types(matches) {
-        match types_changed(rt, known_types(), matches)? {
-            Some(types) => selection_of(rt, reports_input, &types, matches)?,
-            None => None,
-        }
-    } else {
-        selection_of(rt, reports_input, known_types(), matches)?
-    };
-    match selection {
-        Some(selection) => Ok(selection),
-        None => Err(Stop::With(2)),
+) -> Result<Selection, Stop>
+    ensures given { (rows : List TypeRow) × (IfOk result (λ s.
+        IsGiven (found_of matches.now) (types_in_force (found_of matches.now) rows) (selection s))
+        × (chooses_surely (found_of matches.now) rows ≡ true → IfErr result (λ e. e ≡ Stop.NoMemory))) }
+    ensures status { IfErr result (λ e. (e ≡ Stop.With 2) ⊎ (e ≡ Stop.NoMemory)) }
+{
+    match selection_by(rt, reports_input, known_types(), matches) {
+        Ok(Some(selection)) => Ok(selection),
+        Ok(None) => Err(Stop::With(2)),
+        Err(_) => Err(Stop::NoMemory),
     }
 }

@@ -1,8 +1,11 @@
 //! The files of folders.
-ghost use Rattle.std.specs.Prelude.{◌≡◌, ◌++◌, ◌∷◌, [], IfOk, None, OnOk, false, map, string_bytes, true};
+ghost use Rattle.std.specs.Prelude.{◌≡◌, ◌⊎◌, ◌||◌, ◌++◌, ◌∷◌, [], ℕ, IfErr, IfOk, List, MatchOption, None, OnOk, Some, false, map, reverse, string_bytes, true};
+ghost use Rattle.std.specs.List.Sorted.{IsPermutation};
+ghost use Rattle.std.specs.Str.{is_utf8};
+ghost use Rattle.std.specs.Fs.{IsDir, IsFile, IsSymlink, file_type, metadata_len};
 ghost use Rattle.globs.specs.Rules.{ends_in_slash};
 ghost use Rattle.grep_cli.specs.Selecting.{depth_in, enters};
-ghost use Rattle.grep_cli.specs.Entries.{is_entry, is_file, is_file_kind, is_folder, is_folder_kind, joined};
+ghost use Rattle.grep_cli.specs.Entries.{PutsEntries, entries_of, entry_paths, has_no_path, hides_entries, is_entry, is_file, is_file_kind, is_folder, is_folder_kind, joined};
 
 use crate::files::folder_search::FolderSearch;
 use crate::files::path_names::{base_len, depth_in};
@@ -27,7 +30,13 @@ pub enum Kind {
     Device,
 }
 
-fn kind_by(metadata: &Metadata) -> Kind {
+fn kind_by(metadata: &Metadata) -> Kind
+    ensures folder { IsDir (file_type metadata.now) → result ≡ Kind.Folder }
+    ensures file { IsFile (file_type metadata.now) → result ≡ Kind.File }
+    ensures link { IsSymlink (file_type metadata.now) → result ≡ Kind.Link }
+    ensures device { ¬ IsDir (file_type metadata.now) → ¬ IsFile (file_type metadata.now) → ¬ IsSymlink (file_type metadata.now)
+        → result ≡ Kind.Device }
+{
     if metadata.is_dir() {
         return Kind::Folder;
     }
@@ -88,6 +97,17 @@ fn is_file(kind: &io::Result<Kind>) -> bool
     }
 }
 
+/// The size in bytes of a file of which the system said this, if it could.
+fn size_said(said: io::Result<Metadata>) -> Option<u64>
+    ensures known { IfOk said (λ metadata. result ≡ Some (metadata_len metadata)) }
+    ensures unknown { IfErr said (λ _. result ≡ None) }
+{
+    match said {
+        Ok(metadata) => Some(metadata.len()),
+        Err(_) => None,
+    }
+}
+
 /// The size in bytes of the file at a path, if the options give a greatest size. There is none of anything else than a file, or if the
 /// system can't say it.
 pub fn size_at(
@@ -102,10 +122,7 @@ pub fn size_at(
     if selection.max_size.is_none() || !is_file(kind) {
         return None;
     }
-    match fs::metadata(rt, path) {
-        Ok(metadata) => Some(metadata.len()),
-        Err(_) => None,
-    }
+    size_said(fs::metadata(rt, path))
 }
 
 /// A file or folder, by its device and its number there.
@@ -244,6 +261,16 @@ fn report_name(
     Ok(())
 }
 
+/// The name, if it is UTF-8.
+fn name_text(name: &[u8]) -> Option<&str>
+    ensures { MatchOption result (is_utf8 name.now ≡ false) (λ text. (text.now ≡ name.now) × (is_utf8 name.now ≡ true)) }
+{
+    match str::from_utf8(name) {
+        Ok(text) => Some(text),
+        Err(_) => None,
+    }
+}
+
 /// Appends the path of an entry of a folder. If its name isn't UTF-8, it is reported and left out.
 fn push_entry(
     rt: &HostRuntime,
@@ -254,14 +281,16 @@ fn push_entry(
     paths: &mut Vec<String>,
 ) -> Result<(), AllocError>
     ensures other { is_entry name.now ≡ false → (failed.new ≡ failed.old) × (paths.new ≡ paths.old) }
+    ensures paths { OnOk result (map string_bytes paths.new.items ≡ map string_bytes paths.old.items ++ entry_paths folder.now name.now) }
+    ensures recorded { OnOk result (failed.new ≡ (failed.old || has_no_path name.now)) }
     ensures continues { failed.old ≡ true → failed.new ≡ true }
 {
     if !is_entry(name) {
         return Ok(());
     }
-    match str::from_utf8(name) {
-        Ok(name) => push_name(rt.alloc(), folder, name, paths),
-        Err(_) => report_name(rt, folders, failed, folder, name),
+    match name_text(name) {
+        Some(name) => push_name(rt.alloc(), folder, name, paths),
+        None => report_name(rt, folders, failed, folder, name),
     }
 }
 
@@ -274,12 +303,65 @@ fn push_entries(
     names: &[u8],
     paths: &mut Vec<String>,
 ) -> Result<(), AllocError>
-    ensures { failed.old ≡ true → failed.new ≡ true }
+    ensures paths { OnOk result (map string_bytes paths.new.items ≡ map string_bytes paths.old.items ++ entries_of folder.now names.now) }
+    ensures recorded { OnOk result (failed.new ≡ (failed.old || hides_entries names.now)) }
+    ensures continues { failed.old ≡ true → failed.new ≡ true }
 {
     for name in names.split(|byte| *byte == 0) {
         push_entry(rt, folders, failed, folder, name, paths)?;
     }
     Ok(())
+}
+
+/// The paths of the entries of a folder with these names, in order if the options ask for that.
+fn entries_of(
+    rt: &HostRuntime,
+    folders: FolderSearch<'_>,
+    failed: &mut bool,
+    folder: &str,
+    names: &[u8],
+) -> Result<Vec<String>, AllocError>
+    ensures paths { IfOk result (λ v. IsPermutation (entries_of folder.now names.now) (map string_bytes v.items)) }
+    ensures unsorted { folders.entry.selection.now.sorts ≡ false → IfOk result (λ v. map string_bytes v.items ≡ entries_of folder.now names.now) }
+    ensures recorded { IfOk result (λ _. failed.new ≡ (failed.old || hides_entries names.now)) }
+    ensures continues { failed.old ≡ true → failed.new ≡ true }
+{
+    let mut paths = Vec::new(rt.alloc());
+    push_entries(rt, folders, failed, folder, names, &mut paths)?;
+    if !folders.selection.sorts {
+        return Ok(paths);
+    }
+    paths.sort()?;
+    Ok(paths)
+}
+
+/// Appends paths from the last one to the first.
+fn push_paths(left: &mut Vec<String>, mut paths: Vec<String>) -> Result<(), AllocError>
+    ensures { OnOk result (map string_bytes left.new.items ≡ map string_bytes left.old.items ++ reverse (map string_bytes paths.items)) }
+{
+    while let Some(path) = paths.pop() {
+        left.push(path)?;
+    }
+    Ok(())
+}
+
+/// Puts the paths of the entries of a folder with these names before those that are still to be searched.
+fn push_listed(
+    rt: &HostRuntime,
+    folders: FolderSearch<'_>,
+    failed: &mut bool,
+    left: &mut Vec<String>,
+    folder: &str,
+    names: &[u8],
+) -> Result<(), AllocError>
+    ensures paths { OnOk result (PutsEntries folder.now names.now (map string_bytes left.old.items) (map string_bytes left.new.items)) }
+    ensures unsorted { folders.entry.selection.now.sorts ≡ false → OnOk result
+        (map string_bytes left.new.items ≡ map string_bytes left.old.items ++ reverse (entries_of folder.now names.now)) }
+    ensures recorded { OnOk result (failed.new ≡ (failed.old || hides_entries names.now)) }
+    ensures continues { failed.old ≡ true → failed.new ≡ true }
+{
+    let paths = entries_of(rt, folders, failed, folder, names)?;
+    push_paths(left, paths)
 }
 
 /// Puts the paths of the entries of a folder before those that are still to be searched. Whether the folder may be a link depends on
@@ -292,7 +374,9 @@ pub fn push_folder(
     path: &str,
     follows: bool,
 ) -> Result<(), AllocError>
-    ensures { failed.old ≡ true → failed.new ≡ true }
+    ensures paths { OnOk result ((names : List ℕ)
+        × PutsEntries path.now names (map string_bytes left.old.items) (map string_bytes left.new.items)) }
+    ensures continues { failed.old ≡ true → failed.new ≡ true }
 {
     let opened = joined(rt.alloc(), path, "")?;
     let opened = if follows { opened.as_str() } else { path };
@@ -300,15 +384,7 @@ pub fn push_folder(
     if let Err(e) = read_names(rt, opened, &mut names) {
         folders.fail(rt, failed, path, e);
     }
-    let mut paths = Vec::new(rt.alloc());
-    push_entries(rt, folders, failed, path, names.as_slice(), &mut paths)?;
-    if folders.selection.sorts {
-        paths.sort()?;
-    }
-    for path in paths.into_iter().rev() {
-        left.push(path)?;
-    }
-    Ok(())
+    push_listed(rt, folders, failed, left, path, names.as_slice())
 }
 
 /// Puts the paths of the entries of a folder that was found in another one before those that are still to be searched. A folder that is
@@ -323,6 +399,8 @@ pub fn push_found(
 ) -> Result<(), AllocError>
     ensures deep { enters folders.entry.selection.now.max_depth (depth_in root.now path.now) ≡ false
         → (failed.new ≡ failed.old) × (left.new ≡ left.old) }
+    ensures paths { OnOk result ((left.new ≡ left.old) ⊎ ((names : List ℕ)
+        × PutsEntries path.now names (map string_bytes left.old.items) (map string_bytes left.new.items))) }
     ensures continues { failed.old ≡ true → failed.new ≡ true }
 {
     if !folders.selection.enters(depth_in(root, path)) {

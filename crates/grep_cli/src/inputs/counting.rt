@@ -1,5 +1,5 @@
 //! A reader that counts bytes, tries again after an interruption, and keeps the code of an error.
-ghost use Rattle.std.specs.Prelude.{◌≡◌};
+ghost use Rattle.std.specs.Prelude.{◌≡◌, None};
 
 use crate::inputs::retrying;
 use std::io;
@@ -18,6 +18,7 @@ impl<R> Counting<R> {
     pub fn new(reader: R) -> Counting<R>
         ensures reader { result.reader ≡ reader }
         ensures count { result.count ≡ 0 }
+        ensures code { result.code ≡ None }
     {
         Counting {
             reader,
@@ -54,7 +55,9 @@ impl<R: Read> Read for Counting<R> {
         ensures bound { ReadsAtMost result buf.new }
         ensures bytes { ReadConsumes (R.remaining self.old.reader) (R.remaining self.new.reader) result buf.new }
         ensures count { IfOk result (λ n. self.new.count ≡ counted self.old.count n) }
+        ensures uncounted { IfErr result (λ _. self.new.count ≡ self.old.count) }
         ensures code { IfErr result (λ e. self.new.code ≡ raw_os_error e) }
+        ensures kept { IfOk result (λ _. self.new.code ≡ self.old.code) }
         ensures retried { IfErr result (λ e. error_kind e ≢ ErrorKind.Interrupted) }
     {
         match retrying::read(&mut self.reader, buf) {

@@ -1,4 +1,7 @@
 //! The words of the command line, and messages about them.
+ghost use Rattle.std.specs.Prelude.{◌≡◌, IfOk, map, string_bytes};
+ghost use Rattle.grep_options.specs.Numbers.{with_numbers};
+ghost use Rattle.grep_options.specs.declared.numbers.Next.TheVariants.{Value};
 
 use crate::results::messages::report_output;
 use crate::results::shown::{Shown, ShownLines};
@@ -51,19 +54,26 @@ fn arguments_of(rt: &HostRuntime) -> Result<Option<Vec<String>>, AllocError> {
     Ok(Some(owned))
 }
 
-/// The words of the command line, starting with the program's name: the arguments, with `-C` before each number that is an option of its own.
-/// If an argument isn't UTF-8, reports it.
-pub fn words_of(rt: &HostRuntime) -> Result<Vec<String>, Stop> {
-    let Some(arguments) = arguments_of(rt)? else {
-        return Err(Stop::With(2));
-    };
-    match with_numbers(rt.alloc(), arguments.as_slice())? {
+/// These arguments, with `-C` before each number that is an option of its own. If one isn't UTF-8, reports it.
+fn numbered(rt: &HostRuntime, arguments: &[String]) -> Result<Vec<String>, Stop>
+    ensures { IfOk result (λ words. map string_bytes words.items ≡ with_numbers Value (map string_bytes arguments.now)) }
+{
+    match with_numbers(rt.alloc(), arguments)? {
         Some(words) => Ok(words),
         None => {
             let _ = eprintln!(rt; "hirgrep: an argument isn't UTF-8");
             Err(Stop::With(2))
         }
     }
+}
+
+/// The words of the command line, starting with the program's name: the arguments, with `-C` before each number that is an option of its own.
+/// If an argument isn't UTF-8, reports it.
+pub fn words_of(rt: &HostRuntime) -> Result<Vec<String>, Stop> {
+    let Some(arguments) = arguments_of(rt)? else {
+        return Err(Stop::With(2));
+    };
+    numbered(rt, arguments.as_slice())
 }
 
 /// Prints what was asked for instead of a search, as `--help` does, or reports why the command line can't be understood. Returns the exit

@@ -1,9 +1,10 @@
 //! The patterns that options give.
-ghost use Rattle.std.specs.Prelude.{◌≡◌, ◌++◌, ◌∷◌, [], ℕ, true, false, List, None, IfOk, IfSome, IsTrue, OnOk, length, map, string_bytes};
+ghost use Rattle.std.specs.Prelude.{◌≡◌, ◌++◌, ◌∷◌, [], ℕ, true, false, List, Some, IfOk, IfSome, IsTrue, OnOk, codes, is_some, length, map, option_map, string_bytes};
 ghost use Rattle.std.specs.List.{flat_map};
 ghost use Rattle.std.specs.Str.Lines.{lines};
 ghost use Rattle.clap.specs.Words.{found_of};
-ghost use Rattle.grep_cli.specs.Given.{ArePatterns, patterns_of_file, gives_patterns, lines_as_patterns};
+ghost use Rattle.grep_options.specs.Options.{values_given};
+ghost use Rattle.grep_cli.specs.Given.{ArePatterns, files_named, gives_patterns, lines_as_patterns, operand_patterns, patterns_of_file};
 
 use crate::inputs::input::read_text;
 use crate::results::messages::report_error;
@@ -108,8 +109,9 @@ fn push_files<'a>(
     files: &mut Vec<PatternFile<'a>>,
     names: &[&'a str],
 ) -> Result<bool, AllocError>
-    ensures { IfOk result (λ is_read. IsTrue is_read → (texts : List (List ℕ)) × (length texts ≡ length names.now)
+    ensures patterns { IfOk result (λ is_read. IsTrue is_read → (texts : List (List ℕ)) × (length texts ≡ length names.now)
         × (map string_bytes patterns.new.items ≡ map string_bytes patterns.old.items ++ flat_map (patterns_of_file crlf) texts)) }
+    ensures sure { IfOk result (λ is_read. length names.now ≡ 0 → is_read ≡ true) }
 {
     for name in names {
         let Some(text) = text_of(rt, reports_input, name) else {
@@ -137,7 +139,8 @@ fn patterns_of<'a>(
     matches: &'a ArgMatches<'_>,
     files: &mut Vec<PatternFile<'a>>,
 ) -> Result<Option<Vec<String>>, AllocError>
-    ensures { IfOk result (λ o. IfSome o (λ v. ArePatterns crlf (found_of matches.now) (map string_bytes v.items))) }
+    ensures patterns { IfOk result (λ o. IfSome o (λ v. ArePatterns crlf (found_of matches.now) (map string_bytes v.items))) }
+    ensures sure { IfOk result (λ o. length (values_given (found_of matches.now) (codes "file")) ≡ 0 → is_some o ≡ true) }
 {
     let alloc = rt.alloc();
     let mut patterns = Vec::new(alloc);
@@ -150,10 +153,10 @@ fn patterns_of<'a>(
 
 /// The patterns in the first operand, one on each line. If there is no operand, reports that and returns none.
 fn patterns_in_words(rt: &HostRuntime, words: &[&str]) -> Result<Option<Vec<String>>, AllocError>
-    ensures { words.now ≡ [] → IfOk result (λ o. o ≡ None) }
+    ensures { IfOk result (λ o. option_map (λ v. map string_bytes v.items) o ≡ operand_patterns (map (λ s. s.now) words.now)) }
 {
-    match words.first() {
-        Some(text) => {
+    match words.split_first() {
+        Some((text, _)) => {
             let patterns = lines_of(rt.alloc(), text)?;
             Ok(Some(patterns))
         }
@@ -165,7 +168,9 @@ fn patterns_in_words(rt: &HostRuntime, words: &[&str]) -> Result<Option<Vec<Stri
 }
 
 /// The operands that name files: all of them, or, without `-e` and `-f`, all but the first. If files are listed, there are no patterns.
-pub fn names_of_files<'m>(matches: &'m ArgMatches<'_>, lists: bool) -> &'m [&'m str] {
+pub fn names_of_files<'m>(matches: &'m ArgMatches<'_>, lists: bool) -> &'m [&'m str]
+    ensures { map (λ n. n.now) result.now ≡ files_named (found_of matches.now) lists }
+{
     let words = matches.get_strs("words").unwrap_or(&[]);
     if lists || gives_patterns(matches) {
         return words;
@@ -186,8 +191,13 @@ pub fn given_patterns<'a>(
     lists: bool,
     files: &mut Vec<PatternFile<'a>>,
 ) -> Result<Option<Vec<String>>, AllocError>
-    ensures { lists ≡ false → gives_patterns (found_of matches.now) ≡ true → IfOk result (λ o. IfSome o (λ v.
+    ensures listed { lists ≡ true → IfOk result (λ o. option_map (λ v. map string_bytes v.items) o ≡ Some []) }
+    ensures given { lists ≡ false → gives_patterns (found_of matches.now) ≡ true → IfOk result (λ o. IfSome o (λ v.
         ArePatterns crlf (found_of matches.now) (map string_bytes v.items))) }
+    ensures sure { lists ≡ false → gives_patterns (found_of matches.now) ≡ true
+        → length (values_given (found_of matches.now) (codes "file")) ≡ 0 → IfOk result (λ o. is_some o ≡ true) }
+    ensures operand { lists ≡ false → gives_patterns (found_of matches.now) ≡ false → IfOk result (λ o.
+        option_map (λ v. map string_bytes v.items) o ≡ operand_patterns (values_given (found_of matches.now) (codes "words"))) }
 {
     if lists {
         return Ok(Some(Vec::new(rt.alloc())));

@@ -1,5 +1,5 @@
 //! A writer that records whether bytes were written to it, tries again after an interruption, and keeps the code of an error.
-ghost use Rattle.std.specs.Prelude.{◌≡◌, false};
+ghost use Rattle.std.specs.Prelude.{◌≡◌, None, false};
 
 use crate::inputs::retrying;
 use std::io;
@@ -18,6 +18,7 @@ impl<W> Output<W> {
     pub fn new(writer: W) -> Output<W>
         ensures writer { result.writer ≡ writer }
         ensures wrote { result.wrote ≡ false }
+        ensures code { result.code ≡ None }
     {
         Output {
             writer,
@@ -42,7 +43,7 @@ impl<W> Output<W> {
 }
 
 impl<W: Write> Write for Output<W> {
-    ghost use Rattle.std.specs.Prelude.{◌≡◌, ◌≢◌, IfErr, true};
+    ghost use Rattle.std.specs.Prelude.{◌≡◌, ◌≢◌, IfErr, IfOk, true};
     ghost use Rattle.std.specs.IoError.{error_kind, raw_os_error};
     ghost use Rattle.std.specs.Io.{WritesAtMost};
     ghost use Rattle.std.specs.Io.KnownBytes.{Keeps, WriteAppends};
@@ -54,6 +55,7 @@ impl<W: Write> Write for Output<W> {
         ensures bytes { WriteAppends (W.contents self.old.writer) (W.contents self.new.writer) result buf.now }
         ensures wrote { self.new.wrote ≡ true }
         ensures code { IfErr result (λ e. self.new.code ≡ raw_os_error e) }
+        ensures kept { IfOk result (λ _. self.new.code ≡ self.old.code) }
         ensures retried { IfErr result (λ e. error_kind e ≢ ErrorKind.Interrupted) }
     {
         self.wrote = true;
@@ -69,6 +71,7 @@ impl<W: Write> Write for Output<W> {
     fn flush(&mut self) -> io::Result<()>
         ensures bytes { Keeps (W.contents self.old.writer) (W.contents self.new.writer) }
         ensures wrote { self.new.wrote ≡ self.old.wrote }
+        ensures code { self.new.code ≡ self.old.code }
     {
         self.writer.flush()
     }

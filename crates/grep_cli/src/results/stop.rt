@@ -14,8 +14,12 @@ pub enum Stop {
 }
 
 impl From<AllocError> for Stop {
-    fn from(_e: AllocError) -> Stop {
-        Stop::NoMemory
+    ghost use Rattle.std.specs.Prelude.{◌≡◌};
+
+    fn from(_e: AllocError) -> Stop
+        ensures { result ≡ Stop.NoMemory }
+    {
+        Self::NoMemory
     }
 }
 
