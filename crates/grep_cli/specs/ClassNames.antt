@@ -11,6 +11,7 @@ use Rattle.grep_cli.specs.declared.class_names.Misnamed.TheVariants.{Outside, Un
 
 -- ---- names
 
+-- the names of classes
 abbrev pub known_names : List (List ℕ)
 known_names =
     codes "alnum" ∷ codes "alpha" ∷ codes "ascii" ∷ codes "blank" ∷ codes "cntrl" ∷ codes "digit" ∷ codes "graph" ∷ codes "lower"
@@ -29,6 +30,7 @@ abbrev pub name_len : List ℕ → ℕ
 name_len [] = 0
 name_len (c ∷ cs) = if c == 58 && starts_with nat_eq (drop (letters_len cs) cs) (codes ":]") then letters_len cs else 0
 
+-- whether a text begins with a name, as `:alpha:]` does, and which one that is
 abbrev pub has_name : List ℕ → Bool
 has_name text = nat_lt 0 (name_len text)
 
@@ -50,9 +52,11 @@ is_bracket Caret = false
 is_bracket Backslash = false
 is_bracket Other = false
 
+-- what a byte is that isn't escaped, and isn't a caret after a bracket
 abbrev pub last_by : ℕ → Last
 last_by c = if c == 91 then Bracket else if c == 92 then Backslash else Other
 
+-- what a byte is after this one
 abbrev pub next : Last → ℕ → Last
 next Bracket c = if c == 94 then Caret else last_by c
 next Caret c = last_by c

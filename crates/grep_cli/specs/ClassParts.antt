@@ -6,6 +6,7 @@ use Rattle.grep_cli.specs.declared.class_names.Misnamed.TheVariants.{Outside, Un
 use Rattle.grep_cli.specs.declared.class_names.Part.{Part}
 use Rattle.grep_cli.specs.declared.class_names.Part.TheVariants.{Read, Unbracketed, Unnamed}
 
+-- 1 if the test is true, and otherwise 0
 abbrev pub one_if : Bool → ℕ
 one_if true = 1
 one_if false = 0
