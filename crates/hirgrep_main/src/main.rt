@@ -15,20 +15,17 @@ mod results;
 mod searching;
 mod task;
 
-use crate::compiling::{refuse_patterns, sought_of, with_case};
+use crate::compiling::search;
 use crate::options::asked::{asked_of, groups_of};
-use crate::options::decisions::lists_matches;
 use crate::options::patterns::Patterns;
 use crate::options::texts::GivenTexts;
-use crate::results::outcome::Outcome;
-use crate::searching::{Files, search_files};
+use crate::searching::Files;
 use clap::ArgMatches;
 use grep_cli::{
-    Selection, Stop, color_of, input_name, is_colorful, matches_of, names_of_files, print_types,
-    report_error, selection_given, strs_of, template_of, words_of,
+    Stop, color_of, input_name, is_colorful, matches_of, names_of_files, print_types, report_error,
+    selection_given, template_of, words_of,
 };
 use grep_options::is_set;
-use line_search::Finder;
 use std::alloc::AllocError;
 use std::env;
 use std::process::ExitCode;
@@ -66,19 +63,7 @@ fn enter(rt: &HostRuntime, folders: &[&str]) -> Result<(), Stop> {
     Ok(())
 }
 
-/// The files that the command line names.
-fn files_of<'m>(matches: &'m ArgMatches<'_>, selection: &'m Selection) -> Files<'m> {
-    Files {
-        names: names_of_files(matches, selection.lists),
-        input_name: input_name(matches),
-        selection,
-    }
-}
-
 /// Searches for what the options ask for, and returns the exit status. Basic regular expressions are an error.
-///
-/// What is owned is freed before the last way out, and the finder by its own crate, since proofs of what a function drops get larger faster
-/// than what it owns.
 fn search_asked(rt: &HostRuntime, matches: &ArgMatches<'_>) -> Result<u8, Stop>
     ensures { is_set (found_of matches.now) (codes "basic-regexp") ≡ true → IfOk result (λ status. status ≡ 2) }
 {
@@ -98,25 +83,15 @@ fn search_asked(rt: &HostRuntime, matches: &ArgMatches<'_>) -> Result<u8, Stop>
     enter(rt, matches.get_strs("directory").unwrap_or(&[]))?;
     let selection = selection_given(rt, asked.reports_input, matches)?;
     let patterns = Patterns::given(rt, &asked, matches, selection.lists)?;
-    let texts = strs_of(rt.alloc(), patterns.parsed.as_slice())?;
-    let asked = with_case(&asked, texts.as_slice());
-    let sought = sought_of(rt, &asked, texts.as_slice());
-    let files = files_of(matches, &selection);
-    let mut outcome = Outcome::new();
-    let searched = match Finder::new(rt.alloc(), &sought, lists_matches(&asked)) {
-        Ok(mut finder) => {
-            let given = patterns.given.as_slice();
-            let searched = search_files(rt, &mut finder, &asked, given, &mut outcome, files);
-            finder.close();
-            searched
-        }
-        Err(error) => refuse_patterns(rt, &asked, &patterns, error, &mut outcome),
+    let files = Files {
+        names: names_of_files(matches, selection.lists),
+        input_name: input_name(matches),
+        selection: &selection,
     };
-    drop(sought);
-    drop(texts);
+    let searched = search(rt, &asked, &patterns, files);
     drop(patterns);
     drop(selection);
-    searched?;
+    let outcome = searched?;
     Ok(outcome.status(&asked))
 }
 

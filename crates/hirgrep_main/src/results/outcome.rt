@@ -83,6 +83,15 @@ impl Outcome {
         }
     }
 
+    /// The outcome after a failure before the first file.
+    pub fn failure() -> Outcome
+        ensures { result ≡ with_failure no_outcome }
+    {
+        let mut outcome = Outcome::new();
+        outcome.failed = true;
+        outcome
+    }
+
     /// Counts a file from which this many bytes were read.
     fn count(&mut self, bytes: u64)
         ensures { self.new ≡ with_file self.old bytes }
