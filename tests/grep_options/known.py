@@ -1,6 +1,7 @@
 """Where GNU grep 3.8, or ripgrep 13, is known to do otherwise than hirgrep: each case with its reason. docs/DIFFERENCES.md has the same
 for users. A case that stands in no entry has to be the same, byte for byte."""
 
+import re
 from dataclasses import dataclass, replace
 
 from .files import FILES
@@ -115,6 +116,12 @@ def misses_matches(case):
     return case.has("-o", "--count-matches", "--color=always", "-p", "--vimgrep") and case.pattern.text == "\\Ba" and len(case.asked().patterns) > 1
 
 
+def asks_for_words_after_the_end(case):
+    """With --crlf ripgrep 13 reads `$` as `\\r??$`. In an alternation as `x|a$\\b` it then asks for the look after the carriage return, so a
+    line that ends in `a` isn't selected, though `a$\\b` alone selects it."""
+    return case.has("--crlf") and any(re.search(r"\$\)*\\[bB]", it) for it in case.asked().patterns)
+
+
 def counts_though_names_are_asked_for(case):
     """Of -c or --count-matches and -l ripgrep takes the first."""
     return case.has("-c", "--count-matches") and case.has("-l")
@@ -162,6 +169,7 @@ RIPGREP = [
     prints_empty_matches,
     is_the_start_of_the_file,
     misses_matches,
+    asks_for_words_after_the_end,
     counts_though_names_are_asked_for,
     has_other_context,
     has_other_empty_matches,
