@@ -1,6 +1,7 @@
 """Each allocation of hirgrep fails in turn, with each option that --help names and each of its values. What fails is loaded before the
 system's allocator (tests/refused/programs/fail.c), so the program is the built one."""
 
+import json
 import os
 import re
 import subprocess
@@ -115,9 +116,16 @@ def run(line, room, at=0, goes_on=False):
     return Ended(ended.returncode, ended.stdout, ended.stderr, int(counts[0]) if counts else -1)
 
 
+def without_sums(line):
+    """The line, or its type alone if it is the last object of --json, whose sums are those of the files that were searched."""
+    if not line.endswith(b'"type":"summary"}\n'):
+        return line
+    return json.dumps({"type": json.loads(line)["type"]}).encode()
+
+
 def parts(printed):
     """Returns the lines and names that were printed, each with its end."""
-    return re.findall(rb"[^\n\0]*[\n\0]|[^\n\0]+$", printed)
+    return [without_sums(it) for it in re.findall(rb"[^\n\0]*[\n\0]|[^\n\0]+$", printed)]
 
 
 def is_part_of(some, every):
