@@ -1,9 +1,8 @@
 //! A compiled regex.
 ghost use Rattle.std.specs.Prelude.{◌≡◌, ◌≤◌, IfErr, IfNone, IfOk, length, map, replicate, true};
 ghost use Rattle.meta_regex.specs.Caches.{IsCacheOf};
-ghost use Rattle.meta_regex.specs.Regexes.{AreAll, AreFirstOfAll, AreMarked, HasFoundSpan, HasFoundStart, IsMatchingPatternsError, IsReported};
-ghost use Rattle.meta_regex.specs.Regexes.{IsSearchError};
-ghost use Rattle.meta_regex.specs.Lists.{AreFirstListed, AreListed};
+ghost use Rattle.meta_regex.specs.Regexes.{AreAll, AreFirstOfAll, FindsFrom, MarksWhich, ReportsAnyMatch};
+ghost use Rattle.meta_regex.specs.Lists.{ListsAll};
 ghost use Rattle.group_finder.specs.Slots.{no_offset};
 ghost use Rattle.captures.specs.Captures.{AreCaptured, AreFirstCaptured, HasCaptures};
 ghost use Rattle.captures.specs.NextMatches.{AreNext, AreNextBegun, AreNextCaptured, IsFullOrLast};
@@ -181,9 +180,7 @@ impl Compiled {
     ) -> Result<Option<FoundMatch>, SearchError>
         requires within { from ≤ length haystack.now }
         ensures same { self.new ≡ self.old }
-        ensures found { IfOk result (HasFoundStart (config_by self.old) self.old.texts haystack.now from) }
-        ensures preferred { self.old.loops ≡ true → IfOk result (HasFoundSpan (config_by self.old) self.old.texts haystack.now from) }
-        ensures refused { IfErr result (IsSearchError (config_by self.old) haystack.now) }
+        ensures finds { FindsFrom (config_by self.old) self.old.texts self.old.loops haystack.now from result }
     {
         self.regex.find_at(alloc, &mut self.cache, haystack, from)
     }
@@ -240,8 +237,7 @@ impl Compiled {
     /// Whether there is a match.
     pub fn is_match(&mut self, alloc: Global, haystack: &[u8]) -> Result<bool, SearchError>
         ensures same { self.new ≡ self.old }
-        ensures reported { IfOk result (IsReported (config_by self.old) self.old.texts haystack.now) }
-        ensures refused { IfErr result (IsSearchError (config_by self.old) haystack.now) }
+        ensures reports { ReportsAnyMatch (config_by self.old) self.old.texts haystack.now result }
     {
         self.regex.is_match(alloc, &mut self.cache, haystack)
     }
@@ -256,13 +252,7 @@ impl Compiled {
         rows: &mut [FoundMatch],
     ) -> (usize, Result<(), SearchError>)
         ensures same { self.new ≡ self.old }
-        ensures all { self.old.loops ≡ true →
-            IfOk result.1 (λ _. AreAll (config_by self.old) self.old.texts haystack.now result.0 rows.old rows.new) }
-        ensures first { self.old.loops ≡ true →
-            IfErr result.1 (λ _. AreFirstOfAll (config_by self.old) self.old.texts haystack.now result.0 rows.old rows.new) }
-        ensures listed { IfOk result.1 (λ _. AreListed (config_by self.old) self.old.texts haystack.now result.0 rows.old rows.new) }
-        ensures begun { IfErr result.1 (λ _. AreFirstListed (config_by self.old) self.old.texts haystack.now result.0 rows.old rows.new) }
-        ensures refused { IfErr result.1 (IsSearchError (config_by self.old) haystack.now) }
+        ensures lists { ListsAll (config_by self.old) self.old.texts self.old.loops haystack.now rows.old rows.new result }
     {
         self.regex.find_all(alloc, &mut self.cache, haystack, rows)
     }
@@ -383,9 +373,7 @@ impl Compiled {
         marks: &mut [u8],
     ) -> Result<usize, SearchError>
         ensures same { self.new ≡ self.old }
-        ensures marked { IfOk result (λ n. AreMarked (config_by self.old) self.old.texts haystack.now n marks.new) }
-        ensures refused { IfErr result (λ _. marks.new ≡ replicate (length marks.old) 0) }
-        ensures cause { IfErr result (IsMatchingPatternsError (config_by self.old) self.old.texts haystack.now marks.old) }
+        ensures marks { MarksWhich (config_by self.old) self.old.texts haystack.now marks.old marks.new result }
     {
         self.regex
             .matching_patterns(alloc, &mut self.cache, haystack, marks)

@@ -1,6 +1,6 @@
 -- What the toolchain's programs find is what the parsed patterns have.
 use Rattle.std.proofs.Common.{◌≡◌, ℕ, zero, suc, ◌+◌, ◌<◌, Bool, true, false, ◌&&◌, List, [], ◌∷◌, ◌++◌, length, map, drop}
-use Rattle.std.proofs.Common.{slice_index_or, slice_get, Option, Some, None, option_map, refl, sym, ap, ap₂, ◌∙◌, subst, arith, append_assoc}
+use Rattle.std.proofs.Common.{slice_index_or, slice_get, Option, Some, None, Ok, option_map, refl, sym, ap, ap₂, ◌∙◌, subst, arith, append_assoc}
 use Rattle.std.specs.Prelude.{is_some}
 use Rattle.std.proofs.lemmas.Option.{none-some, same_Some}
 use Rattle.regex.specs.Search.{leftmost_in}
@@ -18,7 +18,7 @@ use Rattle.pattern_search.specs.Searches.{found_from, which_match}
 use Rattle.pattern_search.specs.Texts.{AreReadAs}
 use Rattle.meta_regex.specs.declared.found_match.FoundMatch.{FoundMatch}
 use Rattle.meta_regex.specs.Fallbacks.{IsFoundFor, finds_any}
-use Rattle.meta_regex.specs.Regexes.{AreWhich, HasFoundSpan, HasFoundStart, span_of_row}
+use Rattle.meta_regex.specs.Regexes.{AreWhich, FindsFrom, HasFoundSpan, span_of_row}
 use Rattle.meta_regex.specs.Wordless.{MayMatch, both_true}
 use Rattle.meta_regex.proofs.FoundLemmas.{read_as_many}
 
@@ -72,13 +72,17 @@ starts_by (Some a) (Some b) e = ap (λ (s : ℕ × ℕ). Some s.0) (same_Some (s
 
 module _ (config : Config) (ts : List (List ℕ)) (h : List ℕ) (at : ℕ) (o : Option FoundMatch)
     (each : (res : List Re) → AreReadAs config ts res → IsFoundFor config.utf8 res h at o) where
-  pub preferred_slowly : HasFoundSpan config ts h at o
+  preferred_slowly : HasFoundSpan config ts h at o
   preferred_slowly res read = ap (option_map span) (same_search config.utf8 (alt_all res) h at) ∙ (each res read).span_is
 
-  pub found_slowly : HasFoundStart config ts h at o
-  found_slowly = record {
-    start = λ res read. starts_by (found_from config.utf8 (alt_all res) h at) o (preferred_slowly res read);
-    pattern = λ res read. (each res read).pattern;
+  pub finds_slowly : (loops : Bool) → FindsFrom config ts loops h at (Ok o)
+  finds_slowly loops = record {
+    found = record {
+      start = λ res read. starts_by (found_from config.utf8 (alt_all res) h at) o (preferred_slowly res read);
+      pattern = λ res read. (each res read).pattern;
+    };
+    preferred = λ on. preferred_slowly;
+    refused = tt;
   }
 
 -- ---- which patterns match

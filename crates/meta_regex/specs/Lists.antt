@@ -1,12 +1,14 @@
 -- Lists of matches, whatever the loops of the patterns consume: what each row says, in terms of one search after the other.
-use Rattle.std.specs.Prelude.{◌≡◌, ◌≢◌, ℕ, ◌+◌, Bool, List, [], ◌∷◌, Option, Some, None, IfSome, length, option_map, ⊤}
+use Rattle.std.specs.Prelude.{◌≡◌, ◌≢◌, ℕ, ◌+◌, Bool, true, List, [], ◌∷◌, Option, Some, None, IfSome, length, option_map, ⊤}
+use Rattle.std.specs.Prelude.{Result, IfErr, IfOk}
 use Rattle.regex_hir.specs.Re.{Re}
 use Rattle.regex_hir.specs.Meaning.{alt_all}
 use Rattle.regex_syntax.specs.declared.Config.{Config}
 use Rattle.pattern_search.specs.Searches.{found_from, IsOfFirstPattern}
 use Rattle.pattern_search.specs.Texts.{AreReadAs}
 use Rattle.meta_regex.specs.declared.found_match.FoundMatch.{FoundMatch}
-use Rattle.meta_regex.specs.Regexes.{as_found, overlaid}
+use Rattle.meta_regex.specs.declared.errors.SearchError.{SearchError}
+use Rattle.meta_regex.specs.Regexes.{AreAll, AreFirstOfAll, IsSearchError, as_found, overlaid}
 
 -- A search from this offset finds this: it starts where the toolchain's matcher finds the leftmost match, and is a match of the first
 -- pattern that matches there. Which of that pattern's ends it has is left open.
@@ -51,3 +53,13 @@ pub record AreFirstListed (config : Config) (texts : List (List ℕ)) (h : List 
 pub record AreListed (config : Config) (texts : List (List ℕ)) (h : List ℕ) (n : ℕ) (old new : List FoundMatch) : Type 0 where
   pub first : AreFirstListed config texts h n old new
   pub none_left : (res : List Re) → AreReadAs config texts res → ComesNext config.utf8 res h (end_of_last None first.matches) None
+
+-- What a call returns that lists all matches: how many there are, and whether a search failed. The first of them are in the rows. If a search
+-- fails, these are the matches before it.
+pub record ListsAll (config : Config) (texts : List (List ℕ)) (loops : Bool) (h : List ℕ) (old new : List FoundMatch)
+    (result : ℕ × Result ⊤ SearchError) : Type 0 where
+  pub all : loops ≡ true → IfOk result.1 (λ _. AreAll config texts h result.0 old new)
+  pub first : loops ≡ true → IfErr result.1 (λ _. AreFirstOfAll config texts h result.0 old new)
+  pub listed : IfOk result.1 (λ _. AreListed config texts h result.0 old new)
+  pub begun : IfErr result.1 (λ _. AreFirstListed config texts h result.0 old new)
+  pub refused : IfErr result.1 (IsSearchError config h)

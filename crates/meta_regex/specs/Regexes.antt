@@ -1,7 +1,6 @@
 -- What a regex is made from, and what its searches return.
 use Rattle.std.specs.Prelude.{◌≡◌, ◌≢◌, ◌⊎◌, ◌↔◌, ◌≤◌, ℕ, Bool, true, false, List, [], ◌∷◌, All, Option, Some, None, IfSome, map, length}
-use Rattle.std.specs.Prelude.{option_map}
-use Rattle.std.specs.Prelude.{is_some, take, ⊤}
+use Rattle.std.specs.Prelude.{option_map, is_some, take, ⊤, Result, IfErr, IfOk, replicate}
 use Rattle.std.specs.List.{filter}
 use Rattle.std.specs.Str.Lossy.{utf8_valid_len}
 use Rattle.regex_hir.specs.Re.{Re}
@@ -123,6 +122,14 @@ abbrev pub HasFoundSpan : Config → List (List ℕ) → List ℕ → ℕ → Op
 HasFoundSpan config texts h at o = (res : List Re) → AreReadAs config texts res →
     option_map span_of_match (found_from config.utf8 (alt_all res) h at) ≡ option_map span_of_row o
 
+-- What a search of a haystack from an offset on returns: where the match starts and of which pattern it is, its end if loops consume bytes, or
+-- why the search fails.
+pub record FindsFrom (config : Config) (texts : List (List ℕ)) (loops : Bool) (h : List ℕ) (at : ℕ)
+    (result : Result (Option FoundMatch) SearchError) : Type 0 where
+  pub found : IfOk result (HasFoundStart config texts h at)
+  pub preferred : loops ≡ true → IfOk result (HasFoundSpan config texts h at)
+  pub refused : IfErr result (IsSearchError config h)
+
 -- The match that follows one with this end. An empty match right there is skipped.
 abbrev pub IsNext : Config → List (List ℕ) → List ℕ → ℕ → Option FoundMatch → Type 0
 IsNext config texts h end o = (res : List Re) → AreReadAs config texts res →
@@ -132,6 +139,11 @@ IsNext config texts h end o = (res : List Re) → AreReadAs config texts res →
 abbrev pub IsReported : Config → List (List ℕ) → List ℕ → Bool → Type 0
 IsReported config texts h reported = (res : List Re) → AreReadAs config texts res →
     reported ≡ is_some (found_from config.utf8 (alt_all res) h 0)
+
+-- What a call returns that reports whether there is a match, or why its search fails.
+pub record ReportsAnyMatch (config : Config) (texts : List (List ℕ)) (h : List ℕ) (result : Result Bool SearchError) : Type 0 where
+  pub reported : IfOk result (IsReported config texts h)
+  pub refused : IfErr result (IsSearchError config h)
 
 -- ---- all matches
 
@@ -175,3 +187,9 @@ hits reported = length (filter (λ b. b) reported)
 pub record AreMarked (config : Config) (texts : List (List ℕ)) (h : List ℕ) (n : ℕ) (marks : List ℕ) : Type 0 where
   pub marked : (res : List Re) → AreReadAs config texts res → marks ≡ map mark (which_match config.utf8 res h)
   pub count : (res : List Re) → AreReadAs config texts res → n ≡ hits (which_match config.utf8 res h)
+
+-- What a call returns that marks the patterns that match, and what it leaves of the marks. If it fails, all of them are 0.
+pub record MarksWhich (config : Config) (texts : List (List ℕ)) (h old new : List ℕ) (result : Result ℕ SearchError) : Type 0 where
+  pub marked : IfOk result (λ n. AreMarked config texts h n new)
+  pub cleared : IfErr result (λ _. new ≡ replicate (length old) 0)
+  pub cause : IfErr result (IsMatchingPatternsError config texts h old)

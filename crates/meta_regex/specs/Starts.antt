@@ -70,6 +70,11 @@ HasTriedSpan config texts h at (Here f) = HasFoundSpan config texts h at (Some f
 HasTriedSpan config texts h at NotHere = ⊤
 HasTriedSpan config texts h at GaveUp = ⊤
 
+-- what a try at an offset finds, and the end of the match if loops consume bytes
+pub record TriesAt (config : Config) (texts : List (List ℕ)) (loops : Bool) (h : List ℕ) (at : ℕ) (o : Tried) : Type 0 where
+  pub tried : IsTried config texts h at o
+  pub preferred : loops ≡ true → HasTriedSpan config texts h at o
+
 -- what is found from an offset on by trying others: the match, that there is none, or where a search may begin instead
 abbrev pub IsSought : Config → List (List ℕ) → List ℕ → ℕ → Sought → Type 0
 IsSought config texts h at (FoundOne f) = HasFoundStart config texts h at (Some f)
@@ -82,6 +87,11 @@ HasSoughtSpan config texts h at (FoundOne f) = HasFoundSpan config texts h at (S
 HasSoughtSpan config texts h at Missing = ⊤
 HasSoughtSpan config texts h at (From s) = ⊤
 
+-- what is found from an offset on, and the end of the match if loops consume bytes
+pub record SeeksFrom (config : Config) (texts : List (List ℕ)) (loops : Bool) (h : List ℕ) (at : ℕ) (o : Sought) : Type 0 where
+  pub sought : IsSought config texts h at o
+  pub preferred : loops ≡ true → HasSoughtSpan config texts h at o
+
 -- what comes after a try from an offset on: the search is over, or another try from a later offset finds the same
 abbrev pub IsStep : Config → List (List ℕ) → List ℕ → ℕ → Step → Type 0
 IsStep config texts h at (Done o) = IsSought config texts h at o
@@ -91,6 +101,11 @@ IsStep config texts h at (Next s) = (at < s) × MayBeginAt config texts h at (So
 abbrev pub HasStepSpan : Config → List (List ℕ) → List ℕ → ℕ → Step → Type 0
 HasStepSpan config texts h at (Done o) = HasSoughtSpan config texts h at o
 HasStepSpan config texts h at (Next s) = ⊤
+
+-- what comes after a try, and the end of the match if loops consume bytes
+pub record StepsFrom (config : Config) (texts : List (List ℕ)) (loops : Bool) (h : List ℕ) (at : ℕ) (o : Step) : Type 0 where
+  pub step : IsStep config texts h at o
+  pub preferred : loops ≡ true → HasStepSpan config texts h at o
 
 -- ---- searches without automata
 -- trees of these patterns: with UTF-8 alone if that is required, and with bodies of loops that consume bytes if `loops` is true

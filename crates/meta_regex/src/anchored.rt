@@ -1,11 +1,10 @@
 //! Searches that try the offsets at which a match may start, one after the other.
-ghost use Rattle.std.specs.Prelude.{◌≡◌, ◌≤◌, ℕ, List, length, true};
+ghost use Rattle.std.specs.Prelude.{◌≡◌, ◌≤◌, ℕ, Bool, List, length, true};
 ghost use Rattle.regex_syntax.specs.declared.Config.{Config as TextConfig};
 ghost use Rattle.search_core.specs.Utf8.{IsValidText};
 ghost use Rattle.meta_regex.specs.Caches.{IsCacheOf};
 ghost use Rattle.meta_regex.specs.Regexes.{config_by};
-ghost use Rattle.meta_regex.specs.Starts.{HasSoughtSpan, HasStepSpan, HasTriedSpan, IsSought, IsStep, IsTried, NoneStartsAt};
-ghost use Rattle.meta_regex.specs.Starts.{anchored_search, tried_of};
+ghost use Rattle.meta_regex.specs.Starts.{NoneStartsAt, SeeksFrom, StepsFrom, TriesAt, anchored_search, tried_of};
 
 use crate::cache::Cache;
 use crate::compiled::Regex;
@@ -99,9 +98,8 @@ fn price_of(tried: &Tried, read: usize) -> usize {
 /// What comes after a try at this offset, at which no match starts.
 fn step_after(haystack: &[u8], start: usize) -> Step
     requires { start ≤ length haystack.now }
-    ensures step { (config : TextConfig) (texts : List (List ℕ)) → NoneStartsAt config texts haystack.now start →
-        IsStep config texts haystack.now start result }
-    ensures preferred { (config : TextConfig) (texts : List (List ℕ)) → HasStepSpan config texts haystack.now start result }
+    ensures { (config : TextConfig) (texts : List (List ℕ)) (loops : Bool) → NoneStartsAt config texts haystack.now start →
+        StepsFrom config texts loops haystack.now start result }
 {
     if start == haystack.len() {
         return Step::Done(Sought::Missing);
@@ -112,10 +110,8 @@ fn step_after(haystack: &[u8], start: usize) -> Step
 /// What comes after a try at this offset.
 pub(crate) fn step_of(tried: Tried, haystack: &[u8], start: usize) -> Step
     requires { start ≤ length haystack.now }
-    ensures step { (config : TextConfig) (texts : List (List ℕ)) → IsTried config texts haystack.now start tried →
-        IsStep config texts haystack.now start result }
-    ensures preferred { (config : TextConfig) (texts : List (List ℕ)) → HasTriedSpan config texts haystack.now start tried →
-        HasStepSpan config texts haystack.now start result }
+    ensures { (config : TextConfig) (texts : List (List ℕ)) (loops : Bool) → TriesAt config texts loops haystack.now start tried →
+        StepsFrom config texts loops haystack.now start result }
 {
     match tried {
         Tried::Here(found) => Step::Done(Sought::Found(found)),
@@ -131,8 +127,7 @@ impl Regex {
         requires within { at ≤ length haystack.now }
         requires valid { (config_by self.now).utf8 ≡ true → IsValidText haystack.now }
         ensures own { IsCacheOf self.now cache.new }
-        ensures tried { IsTried (config_by self.now) self.now.texts haystack.now at result }
-        ensures preferred { self.now.loops ≡ true → HasTriedSpan (config_by self.now) self.now.texts haystack.now at result }
+        ensures tries { TriesAt (config_by self.now) self.now.texts self.now.loops haystack.now at result }
     {
         see_bytes(haystack);
         searches_answer_leftmost_whatever_the_loops();
@@ -150,8 +145,7 @@ impl Regex {
         requires within { at ≤ length haystack.now }
         requires valid { (config_by self.now).utf8 ≡ true → IsValidText haystack.now }
         ensures own { IsCacheOf self.now cache.new }
-        ensures tried { IsTried (config_by self.now) self.now.texts haystack.now at result }
-        ensures preferred { self.now.loops ≡ true → HasTriedSpan (config_by self.now) self.now.texts haystack.now at result }
+        ensures tries { TriesAt (config_by self.now) self.now.texts self.now.loops haystack.now at result }
     {
         let before = cache.automata.search_total_len();
         let tried = self.find_there(cache, haystack, at);
@@ -171,8 +165,7 @@ impl Regex {
         requires within { at ≤ length haystack.now }
         requires valid { (config_by self.now).utf8 ≡ true → IsValidText haystack.now }
         ensures own { IsCacheOf self.now cache.new }
-        ensures step { IsStep (config_by self.now) self.now.texts haystack.now at result }
-        ensures preferred { self.now.loops ≡ true → HasStepSpan (config_by self.now) self.now.texts haystack.now at result }
+        ensures steps { StepsFrom (config_by self.now) self.now.texts self.now.loops haystack.now at result }
     {
         let Some(start) = self.next_literal(cache, haystack, at) else {
             return Step::Done(Sought::Missing);
@@ -187,8 +180,7 @@ impl Regex {
         requires within { from ≤ length haystack.now }
         requires valid { (config_by self.now).utf8 ≡ true → IsValidText haystack.now }
         ensures own { IsCacheOf self.now cache.new }
-        ensures sought { IsSought (config_by self.now) self.now.texts haystack.now from result }
-        ensures preferred { self.now.loops ≡ true → HasSoughtSpan (config_by self.now) self.now.texts haystack.now from result }
+        ensures seeks { SeeksFrom (config_by self.now) self.now.texts self.now.loops haystack.now from result }
     {
         let mut at = from;
         while cache.effort.pays() {

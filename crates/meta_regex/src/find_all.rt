@@ -3,8 +3,8 @@ ghost use Rattle.std.specs.Prelude.{◌≡◌, ◌≤◌, ◌==◌, IfErr, IfOk,
 ghost use Rattle.regex_hir.specs.Text.{is_some_and};
 ghost use Rattle.search_core.specs.Utf8.{IsValidText};
 ghost use Rattle.meta_regex.specs.Caches.{IsCacheOf};
-ghost use Rattle.meta_regex.specs.Regexes.{AreAll, AreFirstOfAll, HasPattern, IsNext, IsSearchError, config_by};
-ghost use Rattle.meta_regex.specs.Lists.{AreFirstListed, AreListed, IsNextListed};
+ghost use Rattle.meta_regex.specs.Regexes.{HasPattern, IsNext, IsSearchError, config_by};
+ghost use Rattle.meta_regex.specs.Lists.{IsNextListed, ListsAll};
 
 use crate::cache::Cache;
 use crate::compiled::Regex;
@@ -79,13 +79,7 @@ impl Regex {
         requires own { IsCacheOf self.now cache.old }
         requires valid { (config_by self.now).utf8 ≡ true → IsValidText haystack.now }
         ensures own { IsCacheOf self.now cache.new }
-        ensures all { self.now.loops ≡ true →
-            IfOk result.1 (λ _. AreAll (config_by self.now) self.now.texts haystack.now result.0 rows.old rows.new) }
-        ensures first { self.now.loops ≡ true →
-            IfErr result.1 (λ _. AreFirstOfAll (config_by self.now) self.now.texts haystack.now result.0 rows.old rows.new) }
-        ensures listed { IfOk result.1 (λ _. AreListed (config_by self.now) self.now.texts haystack.now result.0 rows.old rows.new) }
-        ensures begun { IfErr result.1 (λ _. AreFirstListed (config_by self.now) self.now.texts haystack.now result.0 rows.old rows.new) }
-        ensures refused { IfErr result.1 (IsSearchError (config_by self.now) haystack.now) }
+        ensures lists { ListsAll (config_by self.now) self.now.texts self.now.loops haystack.now rows.old rows.new result }
     {
         let mut next = match self.search(alloc, cache, haystack, 0) {
             Ok(next) => next,
@@ -117,13 +111,7 @@ impl Regex {
     ) -> (usize, Result<(), SearchError>)
         requires { IsCacheOf self.now cache.old }
         ensures own { IsCacheOf self.now cache.new }
-        ensures all { self.now.loops ≡ true →
-            IfOk result.1 (λ _. AreAll (config_by self.now) self.now.texts haystack.now result.0 rows.old rows.new) }
-        ensures first { self.now.loops ≡ true →
-            IfErr result.1 (λ _. AreFirstOfAll (config_by self.now) self.now.texts haystack.now result.0 rows.old rows.new) }
-        ensures listed { IfOk result.1 (λ _. AreListed (config_by self.now) self.now.texts haystack.now result.0 rows.old rows.new) }
-        ensures begun { IfErr result.1 (λ _. AreFirstListed (config_by self.now) self.now.texts haystack.now result.0 rows.old rows.new) }
-        ensures refused { IfErr result.1 (IsSearchError (config_by self.now) haystack.now) }
+        ensures lists { ListsAll (config_by self.now) self.now.texts self.now.loops haystack.now rows.old rows.new result }
     {
         match self.check(haystack) {
             Ok(()) => self.list(alloc, cache, haystack, rows),

@@ -4,15 +4,13 @@ ghost use Rattle.search_core.specs.Utf8.{IsValidText};
 ghost use Rattle.meta_regex.specs.declared.errors.SearchError.TheVariants.{NoMemory as NoneFree};
 ghost use Rattle.meta_regex.specs.Caches.{IsCacheOf};
 ghost use Rattle.meta_regex.specs.Wordless.{MayMatch};
-ghost use Rattle.meta_regex.specs.Regexes.{AreMarked, AreWhich, IsSearchError, IsMatchingPatternsError, config_by, hits, mark, overlaid};
+ghost use Rattle.meta_regex.specs.Regexes.{AreWhich, IsSearchError, MarksWhich, config_by, hits, mark, overlaid};
 
 use crate::cache::Cache;
 use crate::compiled::Regex;
 use crate::errors::SearchError;
 use crate::fallback::have_each;
-use crate::overlapping::{add_matching, tests_of};
-use search_core::PatternID;
-use search_types::PatternSet;
+use crate::overlapping::tests_by;
 use std::alloc::{AllocError, Global};
 
 fn mark(test: bool) -> u8
@@ -52,19 +50,6 @@ fn hits(tests: &[bool]) -> usize
     count
 }
 
-/// An empty set with room for this many patterns, if there can be so many and memory suffices.
-fn empty_set(alloc: Global, count: usize) -> Option<PatternSet>
-    ensures { IfSome result (λ set. set ≡ replicate count false) }
-{
-    if PatternID::LIMIT < count {
-        return None;
-    }
-    match PatternSet::new(alloc, count) {
-        Ok(set) => Some(set),
-        Err(_) => None,
-    }
-}
-
 /// This many tests, each of them true.
 fn all_true(alloc: Global, count: usize) -> Result<Vec<bool>, AllocError>
     ensures { IfOk result (λ tests. tests.items ≡ replicate count true) }
@@ -87,21 +72,10 @@ impl Regex {
         ensures own { IsCacheOf self.now cache.new }
         ensures reported { IfSome result (λ reported. AreWhich (config_by self.now) self.now.texts haystack.now reported.items) }
     {
-        let Some(mut set) = empty_set(alloc, self.pattern_count()) else {
-            return None;
-        };
         let Some(automata) = &mut cache.overlapping else {
             return None;
         };
-        match add_matching(automata, haystack, &mut set) {
-            Ok(()) => {}
-            Err(_) => return None,
-        }
-        let tests = match tests_of(alloc, &set) {
-            Ok(tests) => tests,
-            Err(_) => return None,
-        };
-        Some(tests)
+        tests_by(alloc, automata, haystack, self.pattern_count())
     }
 
     /// For each pattern, whether it may match, by the automaton without looks at words if it can be made.
@@ -117,24 +91,10 @@ impl Regex {
         ensures long { IfSome result (λ may. length may.items ≡ length self.now.texts) }
     {
         self.prepare_wordless_overlapping(alloc, cache);
-        let Some(mut set) = empty_set(alloc, self.pattern_count()) else {
-            return None;
-        };
         let Some(automata) = &mut cache.wordless_overlapping else {
             return None;
         };
-        match add_matching(automata, haystack, &mut set) {
-            Ok(()) => {}
-            Err(_) => return None,
-        }
-        let may = match tests_of(alloc, &set) {
-            Ok(may) => may,
-            Err(_) => return None,
-        };
-        if may.len() != self.pattern_count() {
-            return None;
-        }
-        Some(may)
+        tests_by(alloc, automata, haystack, self.pattern_count())
     }
 
     /// For each pattern, whether it may match.
@@ -223,9 +183,7 @@ impl Regex {
     ) -> Result<usize, SearchError>
         requires { IsCacheOf self.now cache.old }
         ensures own { IsCacheOf self.now cache.new }
-        ensures marked { IfOk result (λ n. AreMarked (config_by self.now) self.now.texts haystack.now n marks.new) }
-        ensures refused { IfErr result (λ _. marks.new ≡ replicate (length marks.old) 0) }
-        ensures cause { IfErr result (IsMatchingPatternsError (config_by self.now) self.now.texts haystack.now marks.old) }
+        ensures marks { MarksWhich (config_by self.now) self.now.texts haystack.now marks.old marks.new result }
     {
         marks.fill(0);
         if marks.len() != self.pattern_count() {

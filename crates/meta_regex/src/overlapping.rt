@@ -1,5 +1,5 @@
 //! Which patterns match, by automata that find all matches.
-ghost use Rattle.std.specs.Prelude.{◌≡◌, ◌++◌, ◌∷◌, [], ℕ, List, false, true, IfOk, OnOk, length, replicate};
+ghost use Rattle.std.specs.Prelude.{◌≡◌, ◌++◌, ◌∷◌, [], ℕ, List, false, true, IfOk, IfSome, OnOk, length, replicate};
 ghost use Rattle.regex_syntax.specs.declared.Config.{Config as TextConfig};
 ghost use Rattle.search_core.specs.Utf8.{IsValidText};
 ghost use Rattle.search_types.specs.declared.match_kind.MatchKind.TheVariants.{All as AllMatches};
@@ -22,8 +22,21 @@ fn push(tests: &mut Vec<bool>, test: bool) -> Result<(), AllocError>
     Ok(())
 }
 
+/// An empty set with room for this many patterns, if there can be so many and memory suffices.
+fn empty_set(alloc: Global, count: usize) -> Option<PatternSet>
+    ensures { IfSome result (λ set. set ≡ replicate count false) }
+{
+    if PatternID::LIMIT < count {
+        return None;
+    }
+    match PatternSet::new(alloc, count) {
+        Ok(set) => Some(set),
+        Err(_) => None,
+    }
+}
+
 /// The tests of a set, one for each pattern that it has room for.
-pub(crate) fn tests_of(alloc: Global, set: &PatternSet) -> Result<Vec<bool>, AllocError>
+fn tests_of(alloc: Global, set: &PatternSet) -> Result<Vec<bool>, AllocError>
     ensures { IfOk result (λ tests. tests.items ≡ set.now) }
 {
     let mut tests = Vec::new(alloc);
@@ -34,7 +47,7 @@ pub(crate) fn tests_of(alloc: Global, set: &PatternSet) -> Result<Vec<bool>, All
 }
 
 /// Adds the patterns that match to an empty set with room for all patterns. Of automata without looks at words it adds those that may match.
-pub(crate) fn add_matching(
+fn add_matching(
     automata: &mut GrowingRegex,
     haystack: &[u8],
     set: &mut PatternSet,
@@ -58,4 +71,36 @@ pub(crate) fn add_matching(
         Err(e) => return Err(e),
     }
     Ok(())
+}
+
+/// For each of so many patterns, whether it matches, if the automata can answer. Of automata without looks at words, whether it may match.
+pub(crate) fn tests_by(
+    alloc: Global,
+    automata: &mut GrowingRegex,
+    haystack: &[u8],
+    count: usize,
+) -> Option<Vec<bool>>
+    ensures same { automata.new ≡ automata.old }
+    ensures long { IfSome result (λ tests. length tests.items ≡ count) }
+    ensures reported { (config : TextConfig) (texts : List (List ℕ)) → AreBuiltOf config texts AllMatches automata.old.pair →
+        (config.utf8 ≡ true → IsValidText haystack.now) → count ≡ length texts →
+        IfSome result (λ tests. AreWhich config texts haystack.now tests.items) }
+    ensures may { (config : TextConfig) (texts : List (List ℕ)) → AreWordlessOf config texts AllMatches automata.old.pair →
+        count ≡ length texts → IfSome result (λ tests. MayMatch config texts haystack.now tests.items) }
+{
+    let Some(mut set) = empty_set(alloc, count) else {
+        return None;
+    };
+    match add_matching(automata, haystack, &mut set) {
+        Ok(()) => {}
+        Err(_) => return None,
+    }
+    let tests = match tests_of(alloc, &set) {
+        Ok(tests) => tests,
+        Err(_) => return None,
+    };
+    if tests.len() != count {
+        return None;
+    }
+    Some(tests)
 }

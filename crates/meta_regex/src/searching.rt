@@ -4,9 +4,9 @@ ghost use Rattle.regex_syntax.specs.declared.Config.{Config as TextConfig};
 ghost use Rattle.search_core.specs.Utf8.{IsValidText};
 ghost use Rattle.pattern_search.specs.Searches.{whole_search};
 ghost use Rattle.meta_regex.specs.Caches.{IsCacheOf};
-ghost use Rattle.meta_regex.specs.Starts.{HasSoughtSpan, HasStepSpan, IsSought, IsStep, sought_of};
+ghost use Rattle.meta_regex.specs.Starts.{SeeksFrom, StepsFrom, sought_of};
 ghost use Rattle.meta_regex.specs.Wordless.{MayBeginAt};
-ghost use Rattle.meta_regex.specs.Regexes.{HasFoundStart, HasFoundSpan, IsSearchError, IsReported, config_by, row_of};
+ghost use Rattle.meta_regex.specs.Regexes.{FindsFrom, HasFoundStart, HasFoundSpan, IsSearchError, ReportsAnyMatch, config_by, row_of};
 
 use crate::anchored::{Sought, Step, step_of};
 use crate::cache::Cache;
@@ -69,11 +69,16 @@ fn sought_of(next: NextRun) -> Sought
     }
 }
 
-/// About how many bytes a search from this offset on examined.
-fn searched_len(found: &Option<FoundMatch>, haystack: &[u8], start: usize) -> usize {
+/// About how many bytes a search from this offset on examined. If it failed, none count.
+fn searched_len(
+    found: &Result<Option<FoundMatch>, SearchError>,
+    haystack: &[u8],
+    start: usize,
+) -> usize {
     match found {
-        Some(it) => it.end.saturating_sub(start),
-        None => haystack.len().saturating_sub(start),
+        Ok(Some(it)) => it.end.saturating_sub(start),
+        Ok(None) => haystack.len().saturating_sub(start),
+        Err(_) => 0,
     }
 }
 
@@ -128,9 +133,7 @@ impl Regex {
         requires own { IsCacheOf self.now cache.old }
         requires within { from ≤ length haystack.now }
         ensures own { IsCacheOf self.now cache.new }
-        ensures found { IfOk result (HasFoundStart (config_by self.now) self.now.texts haystack.now from) }
-        ensures preferred { IfOk result (HasFoundSpan (config_by self.now) self.now.texts haystack.now from) }
-        ensures refused { IfErr result (IsSearchError (config_by self.now) haystack.now) }
+        ensures finds { FindsFrom (config_by self.now) self.now.texts self.now.loops haystack.now from result }
     {
         let fallbacks = match self.take_fallbacks(alloc, cache) {
             Ok(fallbacks) => fallbacks,
@@ -180,9 +183,7 @@ impl Regex {
         requires within { from ≤ length haystack.now }
         requires valid { (config_by self.now).utf8 ≡ true → IsValidText haystack.now }
         ensures own { IsCacheOf self.now cache.new }
-        ensures found { IfOk result (HasFoundStart (config_by self.now) self.now.texts haystack.now from) }
-        ensures preferred { self.now.loops ≡ true → IfOk result (HasFoundSpan (config_by self.now) self.now.texts haystack.now from) }
-        ensures refused { IfErr result (IsSearchError (config_by self.now) haystack.now) }
+        ensures finds { FindsFrom (config_by self.now) self.now.texts self.now.loops haystack.now from result }
     {
         let error = match self.find_by_automata(cache, haystack, from) {
             Ok(found) => return Ok(found),
@@ -191,10 +192,7 @@ impl Regex {
         if lacks_memory(&error) {
             return Err(SearchError::NoMemory);
         }
-        match self.find_by_fallbacks(alloc, cache, haystack, from) {
-            Ok(found) => Ok(found),
-            Err(e) => Err(e),
-        }
+        self.find_by_fallbacks(alloc, cache, haystack, from)
     }
 
     /// A search of a haystack in which the automata gave up. It begins at the first match without looks at words. The automata are tried
@@ -211,23 +209,15 @@ impl Regex {
         requires within { from ≤ length haystack.now }
         requires valid { (config_by self.now).utf8 ≡ true → IsValidText haystack.now }
         ensures own { IsCacheOf self.now cache.new }
-        ensures found { IfOk result (HasFoundStart (config_by self.now) self.now.texts haystack.now from) }
-        ensures preferred { self.now.loops ≡ true → IfOk result (HasFoundSpan (config_by self.now) self.now.texts haystack.now from) }
-        ensures refused { IfErr result (IsSearchError (config_by self.now) haystack.now) }
+        ensures finds { FindsFrom (config_by self.now) self.now.texts self.now.loops haystack.now from result }
     {
         let Some(start) = self.next_start(alloc, cache, haystack, from) else {
             return Ok(None);
         };
         if start == from {
-            return match self.find_by_fallbacks(alloc, cache, haystack, start) {
-                Ok(found) => Ok(found),
-                Err(e) => Err(e),
-            };
+            return self.find_by_fallbacks(alloc, cache, haystack, from);
         }
-        match self.find_by_either(alloc, cache, haystack, start) {
-            Ok(found) => Ok(found),
-            Err(e) => Err(e),
-        }
+        self.find_by_either(alloc, cache, haystack, start)
     }
 
     /// The offset of the next literal or byte with which a match may begin: a search may begin there instead. If there is none, there is no match.
@@ -259,9 +249,7 @@ impl Regex {
         requires within { from ≤ length haystack.now }
         requires valid { (config_by self.now).utf8 ≡ true → IsValidText haystack.now }
         ensures own { IsCacheOf self.now cache.new }
-        ensures found { IfOk result (HasFoundStart (config_by self.now) self.now.texts haystack.now from) }
-        ensures preferred { self.now.loops ≡ true → IfOk result (HasFoundSpan (config_by self.now) self.now.texts haystack.now from) }
-        ensures refused { IfErr result (IsSearchError (config_by self.now) haystack.now) }
+        ensures finds { FindsFrom (config_by self.now) self.now.texts self.now.loops haystack.now from result }
     {
         let error = match self.find_by_automata(cache, haystack, from) {
             Ok(found) => return Ok(found),
@@ -270,14 +258,11 @@ impl Regex {
         if lacks_memory(&error) {
             return Err(SearchError::NoMemory);
         }
-        match self.find_later(alloc, cache, haystack, from) {
-            Ok(found) => Ok(found),
-            Err(e) => Err(e),
-        }
+        self.find_later(alloc, cache, haystack, from)
     }
 
-    /// A search without literals or first bytes while these don't pay.
-    fn search_resting(
+    /// A search without literals or first bytes, which counts the bytes that it examined.
+    fn search_counted(
         &self,
         alloc: Global,
         cache: &mut Cache,
@@ -288,16 +273,11 @@ impl Regex {
         requires within { from ≤ length haystack.now }
         requires valid { (config_by self.now).utf8 ≡ true → IsValidText haystack.now }
         ensures own { IsCacheOf self.now cache.new }
-        ensures found { IfOk result (HasFoundStart (config_by self.now) self.now.texts haystack.now from) }
-        ensures preferred { self.now.loops ≡ true → IfOk result (HasFoundSpan (config_by self.now) self.now.texts haystack.now from) }
-        ensures refused { IfErr result (IsSearchError (config_by self.now) haystack.now) }
+        ensures finds { FindsFrom (config_by self.now) self.now.texts self.now.loops haystack.now from result }
     {
-        let found = match self.search_on(alloc, cache, haystack, from) {
-            Ok(found) => found,
-            Err(e) => return Err(e),
-        };
+        let found = self.search_on(alloc, cache, haystack, from);
         cache.effort.pass(searched_len(&found, haystack, from));
-        Ok(found)
+        found
     }
 
     /// Where a search has to begin by the literals or first bytes of matches, or the match that is found by them.
@@ -306,8 +286,7 @@ impl Regex {
         requires within { from ≤ length haystack.now }
         requires valid { (config_by self.now).utf8 ≡ true → IsValidText haystack.now }
         ensures own { IsCacheOf self.now cache.new }
-        ensures sought { IsSought (config_by self.now) self.now.texts haystack.now from result }
-        ensures preferred { self.now.loops ≡ true → HasSoughtSpan (config_by self.now) self.now.texts haystack.now from result }
+        ensures seeks { SeeksFrom (config_by self.now) self.now.texts self.now.loops haystack.now from result }
     {
         if self.tries_starts() {
             return self.try_starts(cache, haystack, from);
@@ -331,33 +310,20 @@ impl Regex {
         requires within { from ≤ length haystack.now }
         requires valid { (config_by self.now).utf8 ≡ true → IsValidText haystack.now }
         ensures own { IsCacheOf self.now cache.new }
-        ensures found { IfOk result (HasFoundStart (config_by self.now) self.now.texts haystack.now from) }
-        ensures preferred { self.now.loops ≡ true → IfOk result (HasFoundSpan (config_by self.now) self.now.texts haystack.now from) }
-        ensures refused { IfErr result (IsSearchError (config_by self.now) haystack.now) }
+        ensures finds { FindsFrom (config_by self.now) self.now.texts self.now.loops haystack.now from result }
     {
         if !self.knows_starts() {
-            return match self.search_on(alloc, cache, haystack, from) {
-                Ok(found) => Ok(found),
-                Err(e) => Err(e),
-            };
+            return self.search_on(alloc, cache, haystack, from);
         }
         if !cache.effort.pays() {
-            return match self.search_resting(alloc, cache, haystack, from) {
-                Ok(found) => Ok(found),
-                Err(e) => Err(e),
-            };
+            return self.search_counted(alloc, cache, haystack, from);
         }
         let start = match self.sought_start(cache, haystack, from) {
             Sought::Found(found) => return Ok(Some(found)),
             Sought::Missing => return Ok(None),
             Sought::From(start) => start,
         };
-        let found = match self.search_on(alloc, cache, haystack, start) {
-            Ok(found) => found,
-            Err(e) => return Err(e),
-        };
-        cache.effort.pass(searched_len(&found, haystack, start));
-        Ok(found)
+        self.search_counted(alloc, cache, haystack, start)
     }
 
     /// The next match, if it is found without automata. Otherwise it returns where a search has to begin.
@@ -367,8 +333,7 @@ impl Regex {
         requires within { from ≤ length haystack.now }
         requires valid { (config_by self.now).utf8 ≡ true → IsValidText haystack.now }
         ensures own { IsCacheOf self.now cache.new }
-        ensures sought { IsSought (config_by self.now) self.now.texts haystack.now from result }
-        ensures preferred { self.now.loops ≡ true → HasSoughtSpan (config_by self.now) self.now.texts haystack.now from result }
+        ensures seeks { SeeksFrom (config_by self.now) self.now.texts self.now.loops haystack.now from result }
     {
         see_bytes(haystack);
         let (way, starts) = self.way();
@@ -382,8 +347,7 @@ impl Regex {
         requires within { at ≤ length haystack.now }
         requires valid { (config_by self.now).utf8 ≡ true → IsValidText haystack.now }
         ensures own { IsCacheOf self.now cache.new }
-        ensures step { IsStep (config_by self.now) self.now.texts haystack.now at result }
-        ensures preferred { self.now.loops ≡ true → HasStepSpan (config_by self.now) self.now.texts haystack.now at result }
+        ensures steps { StepsFrom (config_by self.now) self.now.texts self.now.loops haystack.now at result }
     {
         let start = match self.sought_directly(cache, haystack, at) {
             Sought::Found(found) => return Step::Done(Sought::Found(found)),
@@ -403,8 +367,7 @@ impl Regex {
         requires within { from ≤ length haystack.now }
         requires valid { (config_by self.now).utf8 ≡ true → IsValidText haystack.now }
         ensures own { IsCacheOf self.now cache.new }
-        ensures sought { IsSought (config_by self.now) self.now.texts haystack.now from result }
-        ensures preferred { self.now.loops ≡ true → HasSoughtSpan (config_by self.now) self.now.texts haystack.now from result }
+        ensures seeks { SeeksFrom (config_by self.now) self.now.texts self.now.loops haystack.now from result }
     {
         let mut at = from;
         loop {
@@ -428,9 +391,7 @@ impl Regex {
         requires within { from ≤ length haystack.now }
         requires valid { (config_by self.now).utf8 ≡ true → IsValidText haystack.now }
         ensures own { IsCacheOf self.now cache.new }
-        ensures found { IfOk result (HasFoundStart (config_by self.now) self.now.texts haystack.now from) }
-        ensures preferred { self.now.loops ≡ true → IfOk result (HasFoundSpan (config_by self.now) self.now.texts haystack.now from) }
-        ensures refused { IfErr result (IsSearchError (config_by self.now) haystack.now) }
+        ensures finds { FindsFrom (config_by self.now) self.now.texts self.now.loops haystack.now from result }
     {
         let start = match self.sought_by_steps(cache, haystack, from) {
             Sought::Found(found) => return Ok(Some(found)),
@@ -438,15 +399,9 @@ impl Regex {
             Sought::From(start) => start,
         };
         if !cache.effort.pays() {
-            return match self.search_resting(alloc, cache, haystack, start) {
-                Ok(found) => Ok(found),
-                Err(e) => Err(e),
-            };
+            return self.search_counted(alloc, cache, haystack, start);
         }
-        match self.search_by_automata(alloc, cache, haystack, start) {
-            Ok(found) => Ok(found),
-            Err(e) => Err(e),
-        }
+        self.search_by_automata(alloc, cache, haystack, start)
     }
 
     /// A search without automata, as far as one is known.
@@ -462,19 +417,14 @@ impl Regex {
         requires within { from ≤ length haystack.now }
         requires valid { (config_by self.now).utf8 ≡ true → IsValidText haystack.now }
         ensures own { IsCacheOf self.now cache.new }
-        ensures found { IfOk result (HasFoundStart (config_by self.now) self.now.texts haystack.now from) }
-        ensures preferred { self.now.loops ≡ true → IfOk result (HasFoundSpan (config_by self.now) self.now.texts haystack.now from) }
-        ensures refused { IfErr result (IsSearchError (config_by self.now) haystack.now) }
+        ensures finds { FindsFrom (config_by self.now) self.now.texts self.now.loops haystack.now from result }
     {
         let start = match self.sought_directly(cache, haystack, from) {
             Sought::Found(found) => return Ok(Some(found)),
             Sought::Missing => return Ok(None),
             Sought::From(start) => start,
         };
-        match self.search_further(alloc, cache, haystack, start) {
-            Ok(found) => Ok(found),
-            Err(e) => Err(e),
-        }
+        self.search_further(alloc, cache, haystack, start)
     }
 
     /// A search of a haystack that is UTF-8 if the options require it, which [`check`](Regex::check) tests. It is
@@ -490,20 +440,12 @@ impl Regex {
         requires within { from ≤ length haystack.now }
         requires valid { (config_by self.now).utf8 ≡ true → IsValidText haystack.now }
         ensures own { IsCacheOf self.now cache.new }
-        ensures found { IfOk result (HasFoundStart (config_by self.now) self.now.texts haystack.now from) }
-        ensures preferred { self.now.loops ≡ true → IfOk result (HasFoundSpan (config_by self.now) self.now.texts haystack.now from) }
-        ensures refused { IfErr result (IsSearchError (config_by self.now) haystack.now) }
+        ensures finds { FindsFrom (config_by self.now) self.now.texts self.now.loops haystack.now from result }
     {
         if self.needs_automata() {
-            return match self.search_by_automata(alloc, cache, haystack, from) {
-                Ok(found) => Ok(found),
-                Err(e) => Err(e),
-            };
+            return self.search_by_automata(alloc, cache, haystack, from);
         }
-        match self.search_directly(alloc, cache, haystack, from) {
-            Ok(found) => Ok(found),
-            Err(e) => Err(e),
-        }
+        self.search_directly(alloc, cache, haystack, from)
     }
 
     /// The leftmost match from an offset on, and of several that start there the preferred one. Look-around assertions see what precedes
@@ -518,19 +460,13 @@ impl Regex {
         requires own { IsCacheOf self.now cache.old }
         requires within { from ≤ length haystack.now }
         ensures own { IsCacheOf self.now cache.new }
-        ensures found { IfOk result (HasFoundStart (config_by self.now) self.now.texts haystack.now from) }
-        ensures preferred { self.now.loops ≡ true → IfOk result (HasFoundSpan (config_by self.now) self.now.texts haystack.now from) }
-        ensures refused { IfErr result (IsSearchError (config_by self.now) haystack.now) }
+        ensures finds { FindsFrom (config_by self.now) self.now.texts self.now.loops haystack.now from result }
     {
         match self.check(haystack) {
             Ok(()) => {}
             Err(e) => return Err(e),
         }
-        let found = match self.search(alloc, cache, haystack, from) {
-            Ok(found) => found,
-            Err(e) => return Err(e),
-        };
-        Ok(found)
+        self.search(alloc, cache, haystack, from)
     }
 
     /// Whether there is a match.
@@ -542,8 +478,7 @@ impl Regex {
     ) -> Result<bool, SearchError>
         requires { IsCacheOf self.now cache.old }
         ensures own { IsCacheOf self.now cache.new }
-        ensures reported { IfOk result (IsReported (config_by self.now) self.now.texts haystack.now) }
-        ensures refused { IfErr result (IsSearchError (config_by self.now) haystack.now) }
+        ensures reports { ReportsAnyMatch (config_by self.now) self.now.texts haystack.now result }
     {
         let found = match self.find_at(alloc, cache, haystack, 0) {
             Ok(found) => found,

@@ -1,23 +1,15 @@
 use Rattle.std.proofs.Common.{subst}
-use Rattle.std.specs.Prelude.{IfErr, IfOk}
 use Rattle.meta_regex.specs.Caches.{IsCacheOf}
-use Rattle.meta_regex.specs.Regexes.{AreMarked, IsMatchingPatternsError, RegexValue}
+use Rattle.meta_regex.specs.Regexes.{MarksWhich, RegexValue}
 use Rattle.ffi_core.proofs.CompiledLemmas.{by_value}
 use Rattle.ffi_core.proofs.compiled.Compiled.matching_patterns.Goals as goal
 
-pub returns-clause-marked : goal.returns-clause-marked
-returns-clause-marked c =
+pub returns-clause-marks : goal.returns-clause-marks
+returns-clause-marks c =
     by_value c.deref.result.now c.self.inside.regex.value c.self.inside.options c.args.self.now c.deref.ensures c.self.invariant.0
     c.self.view_is
-    (λ k ts loops. IfOk c.matching_patterns.result (λ n. AreMarked k ts c.args.haystack.now n c.matching_patterns.new.marks))
-    c.matching_patterns.ensures.marked
-
-pub returns-clause-cause : goal.returns-clause-cause
-returns-clause-cause c =
-    by_value c.deref.result.now c.self.inside.regex.value c.self.inside.options c.args.self.now c.deref.ensures c.self.invariant.0
-    c.self.view_is
-    (λ k ts loops. IfErr c.matching_patterns.result (IsMatchingPatternsError k ts c.args.haystack.now c.args.marks.now))
-    c.matching_patterns.ensures.cause
+    (λ k ts loops. MarksWhich k ts c.args.haystack.now c.args.marks.now c.matching_patterns.new.marks c.matching_patterns.result)
+    c.matching_patterns.ensures.marks
 
 pub invariant_of-self : goal.invariant_of-self
 invariant_of-self c = (

@@ -10,9 +10,9 @@ pub loop-count-init : goal.loop-count-init
 loop-count-init c = (
   c.search.ensures.own,
   λ on. listing_begins (config_by c.args.self.now) c.args.self.now.texts c.args.haystack.now c.args.rows.now c.in-Ok.next
-      (sym (none_laid c.args.rows.now)) c.in-Ok.ensures.found.pattern (c.in-Ok.ensures.preferred on),
+      (sym (none_laid c.args.rows.now)) c.in-Ok.ensures.finds.found.pattern (c.in-Ok.ensures.finds.preferred on),
   order_begins (config_by c.args.self.now) c.args.self.now.texts c.args.haystack.now c.args.rows.now c.in-Ok.next
-      (sym (none_laid c.args.rows.now)) c.in-Ok.ensures.found,
+      (sym (none_laid c.args.rows.now)) c.in-Ok.ensures.finds.found,
 )
 
 pub loop-count-preserved : goal.loop-count-preserved
@@ -28,49 +28,61 @@ loop-count-preserved c = (
       c.in-Ok-find_next.ensures.listed c.loop-count.invariant.2,
 )
 
-pub returns-in_default-clause-all : goal.returns-in_default-clause-all
-returns-in_default-clause-all c on =
-    listing_ends (config_by c.args.self.now) c.args.self.now.texts c.args.haystack.now c.args.rows.now
-    (length c.args.haystack.now + 1 - c.loop-count.count) c.loop-count.count c.loop-count.rows c.loop-count.next c.in_default.is
-    (c.loop-count.invariant.1 on)
+pub returns-in_default-clause-lists : goal.returns-in_default-clause-lists
+returns-in_default-clause-lists c =
+    let v = c.args.self.now in
+    let h = c.args.haystack.now in
+    record {
+      all = λ on. listing_ends (config_by v) v.texts h c.args.rows.now (length h + 1 - c.loop-count.count) c.loop-count.count
+          c.loop-count.rows c.loop-count.next c.in_default.is (c.loop-count.invariant.1 on);
+      first = λ on. tt;
+      listed = order_ends (config_by v) v.texts h c.args.rows.now c.loop-count.count c.loop-count.rows c.loop-count.next c.in_default.is
+          c.loop-count.invariant.2;
+      begun = tt;
+      refused = tt;
+    }
 
-pub returns-clause-all : goal.returns-clause-all
-returns-clause-all c on =
-    let last : c.loop-count.count ≡ length c.args.haystack.now + 1 = omega (arith, c.loop-count-test.false, c.loop-count.auto.count-end) in
-    subst (λ (n : ℕ). AreAll (config_by c.args.self.now) c.args.self.now.texts c.args.haystack.now n c.args.rows.now c.loop-count.rows) last
-    (listing_runs_out (config_by c.args.self.now) c.args.self.now.texts c.args.haystack.now c.args.rows.now
-    (length c.args.haystack.now + 1 - c.loop-count.count) c.loop-count.count c.loop-count.rows c.loop-count.next
-    (omega (arith, c.loop-count-test.false)) (c.loop-count.invariant.1 on))
-
-pub returns-in_default-clause-listed : goal.returns-in_default-clause-listed
-returns-in_default-clause-listed c =
-    order_ends (config_by c.args.self.now) c.args.self.now.texts c.args.haystack.now c.args.rows.now c.loop-count.count c.loop-count.rows
-    c.loop-count.next c.in_default.is c.loop-count.invariant.2
-
-pub returns-clause-listed : goal.returns-clause-listed
-returns-clause-listed c =
-    let last : c.loop-count.count ≡ length c.args.haystack.now + 1 = omega (arith, c.loop-count-test.false, c.loop-count.auto.count-end) in
-    subst (λ (n : ℕ). AreListed (config_by c.args.self.now) c.args.self.now.texts c.args.haystack.now n c.args.rows.now c.loop-count.rows)
-    last
-    (order_runs_out (config_by c.args.self.now) c.args.self.now.texts c.args.haystack.now c.args.rows.now c.loop-count.count
-    c.loop-count.rows c.loop-count.next (omega (arith, last)) c.loop-count.invariant.2)
+pub returns-clause-lists : goal.returns-clause-lists
+returns-clause-lists c =
+    let v = c.args.self.now in
+    let h = c.args.haystack.now in
+    let last : c.loop-count.count ≡ length h + 1 = omega (arith, c.loop-count-test.false, c.loop-count.auto.count-end) in
+    record {
+      all = λ on. subst (λ (n : ℕ). AreAll (config_by v) v.texts h n c.args.rows.now c.loop-count.rows) last
+          (listing_runs_out (config_by v) v.texts h c.args.rows.now (length h + 1 - c.loop-count.count) c.loop-count.count
+          c.loop-count.rows c.loop-count.next (omega (arith, c.loop-count-test.false)) (c.loop-count.invariant.1 on));
+      first = λ on. tt;
+      listed = subst (λ (n : ℕ). AreListed (config_by v) v.texts h n c.args.rows.now c.loop-count.rows) last
+          (order_runs_out (config_by v) v.texts h c.args.rows.now c.loop-count.count c.loop-count.rows c.loop-count.next
+          (omega (arith, last)) c.loop-count.invariant.2);
+      begun = tt;
+      refused = tt;
+    }
 
 -- if a search fails
-pub returns-in-Err-clause-first : goal.returns-in-Err-clause-first
-returns-in-Err-clause-first c on =
-    none_first (config_by c.args.self.now) c.args.self.now.texts c.args.haystack.now c.args.rows.now (sym (none_laid c.args.rows.now))
+pub returns-in-Err-clause-lists : goal.returns-in-Err-clause-lists
+returns-in-Err-clause-lists c =
+    let v = c.args.self.now in
+    let same = sym (none_laid c.args.rows.now) in
+    record {
+      all = λ on. tt;
+      first = λ on. none_first (config_by v) v.texts c.args.haystack.now c.args.rows.now same;
+      listed = tt;
+      begun = none_listed (config_by v) v.texts c.args.haystack.now c.args.rows.now same;
+      refused = c.in-Err.ensures.finds.refused;
+    }
 
-pub returns-in-Err-clause-begun : goal.returns-in-Err-clause-begun
-returns-in-Err-clause-begun c =
-    none_listed (config_by c.args.self.now) c.args.self.now.texts c.args.haystack.now c.args.rows.now (sym (none_laid c.args.rows.now))
-
-pub returns-in-Err-find_next-clause-first : goal.returns-in-Err-find_next-clause-first
-returns-in-Err-find_next-clause-first c on =
-    listing_fails_behind (config_by c.args.self.now) c.args.self.now.texts c.args.haystack.now c.args.rows.now
-    (length c.args.haystack.now + 1 - c.loop-count.count) c.loop-count.count c.loop-count.rows c.put.new.rows c.loop-count.next
-    c.in-Some.found (omega (arith, c.loop-count-test.true)) c.in-Some.is c.put.ensures (c.loop-count.invariant.1 on)
-
-pub returns-in-Err-find_next-clause-begun : goal.returns-in-Err-find_next-clause-begun
-returns-in-Err-find_next-clause-begun c =
-    one_more_listed (config_by c.args.self.now) c.args.self.now.texts c.args.haystack.now c.args.rows.now c.loop-count.count
-    c.loop-count.rows c.put.new.rows c.loop-count.next c.in-Some.found c.in-Some.is c.put.ensures c.loop-count.invariant.2
+pub returns-in-Err-find_next-clause-lists : goal.returns-in-Err-find_next-clause-lists
+returns-in-Err-find_next-clause-lists c =
+    let v = c.args.self.now in
+    let h = c.args.haystack.now in
+    record {
+      all = λ on. tt;
+      first = λ on. listing_fails_behind (config_by v) v.texts h c.args.rows.now (length h + 1 - c.loop-count.count) c.loop-count.count
+          c.loop-count.rows c.put.new.rows c.loop-count.next c.in-Some.found (omega (arith, c.loop-count-test.true)) c.in-Some.is
+          c.put.ensures (c.loop-count.invariant.1 on);
+      listed = tt;
+      begun = one_more_listed (config_by v) v.texts h c.args.rows.now c.loop-count.count c.loop-count.rows c.put.new.rows
+          c.loop-count.next c.in-Some.found c.in-Some.is c.put.ensures c.loop-count.invariant.2;
+      refused = c.in-Err-find_next.ensures.refused;
+    }
