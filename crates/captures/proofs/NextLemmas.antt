@@ -1,8 +1,7 @@
 -- Matches from an offset on, one after the other.
-use Rattle.std.proofs.Common.{◌≡◌, ℕ, zero, suc, ◌+◌, ◌<◌, ◌≤◌, Bool, List, [], ◌∷◌, ◌++◌, All, length, map, slice_set, take, replicate, Option, Some, None, IfSome, option_map, inl, inr, refl, sym, ap, ap₂, ◌∙◌, subst, arith, append-nil, length-append}
+use Rattle.std.proofs.Common.{◌≡◌, ℕ, zero, suc, ◌+◌, ◌<◌, ◌≤◌, List, [], ◌∷◌, ◌++◌, All, length, map, slice_set, take, Option, Some, None, IfSome, option_map, inl, refl, sym, ap, ap₂, ◌∙◌, subst, arith, length-append}
 use Rattle.std.proofs.lemmas.List.{length-map}
 use Rattle.std.proofs.lemmas.List.Elements.{All-nil, All-cons, All-append}
-use Rattle.std.proofs.lemmas.Option.{none-some}
 use Rattle.regex_hir.specs.Re.{Re, accept, attempt}
 use Rattle.regex_hir.specs.Meaning.{alt_all}
 use Rattle.regex_hir.specs.Find.{Match}
@@ -14,12 +13,12 @@ use Rattle.pattern_search.proofs.ForCallers.{found_is, tried}
 use Rattle.meta_regex.specs.declared.found_match.FoundMatch.{FoundMatch}
 use Rattle.meta_regex.specs.Regexes.{HasFoundSpan, HasPattern, as_found, overlaid, span_of_row}
 use Rattle.meta_regex.proofs.ForCallers.{none_laid}
-use Rattle.group_finder.specs.Slots.{no_offset, slots_of}
+use Rattle.group_finder.specs.Slots.{slots_of}
 use Rattle.captures.specs.Captures.{rows_of}
-use Rattle.captures.specs.NextMatches.{AreNext, AreNextBegun, AreNextCaptured, IsFullOrLast, after_all, after_match, after_span, matches_after, next_matches}
+use Rattle.captures.specs.NextMatches.{AreNext, AreNextBegun, after_all, after_match, after_span, matches_after, next_matches}
 use Rattle.captures.specs.Rows.{AreFilled}
-use Rattle.captures.proofs.FoundLemmas.{ends_inside, found_there, spanless, spanned}
-use Rattle.captures.proofs.RowLemmas.{all_laid, length_laid, map_laid, map_one_more, one_laid, rows_more}
+use Rattle.captures.proofs.FoundLemmas.{ends_inside, found_there, spanned}
+use Rattle.captures.proofs.RowLemmas.{all_laid, map_laid, map_one_more, one_laid, rows_more}
 
 -- ---- one match more
 one_more : (s : ℕ → Option Match) (n at : ℕ) (o : Option Match) (w : Match) → o ≡ s at → s (after_all at (matches_after s n o)) ≡ Some w →

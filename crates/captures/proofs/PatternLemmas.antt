@@ -1,5 +1,5 @@
 -- The groups of patterns, one by one.
-use Rattle.std.proofs.Common.{◌≡◌, ◌≢◌, ◌⊎◌, ⊎_elim, ℕ, zero, suc, ◌+◌, ◌^◌, ◌<◌, ◌≤◌, List, ◌∷◌, ◌++◌, length, map, drop, slice_get, slice_set, chars, Option, Some, None, IsSomeAnd, IfSome, Bor, is_some, true, refl, sym, ap, ◌∙◌, subst, arith, append_assoc, append-nil, []}
+use Rattle.std.proofs.Common.{◌≡◌, ◌≢◌, ◌⊎◌, ⊎_elim, ℕ, zero, suc, ◌+◌, ◌^◌, ◌<◌, ◌≤◌, List, ◌∷◌, ◌++◌, length, map, drop, slice_get, slice_set, chars, Option, Some, None, IsSomeAnd, IfSome, IfErr, Result, Bor, is_some, true, refl, sym, ap, ◌∙◌, subst, arith, append_assoc, append-nil, []}
 use Rattle.std.proofs.lemmas.Bool.{cases_lt}
 use Rattle.std.proofs.lemmas.Option.{none-some, same_Some, slice_get_within}
 use Rattle.regex_syntax.specs.Grammar.{Names, read}
@@ -14,8 +14,11 @@ use Rattle.group_finder.specs.Patterns.{IsNamedBy, IsParsedAs, IsPattern}
 use Rattle.group_finder.specs.Errors.{IsNewError, bytes_allowed}
 use Rattle.group_finder.specs.declared.errors.NewError.{NewError}
 use Rattle.group_finder.specs.declared.errors.NewError.TheVariants.{NoMemory, Syntax, TooLarge}
-use Rattle.captures.specs.Errors.{IsGroupsError, IsPrepareError}
-use Rattle.captures.specs.Groups.{limit_of}
+use Rattle.captures.specs.Errors.{IsCapturesError, IsGroupsError, IsPrepareError}
+use Rattle.captures.specs.Groups.{AreGroupsOf, limit_of}
+use Rattle.captures.specs.Promises.{KeepsGroups}
+use Rattle.captures.specs.declared.errors.CapturesError.{CapturesError}
+use Rattle.captures.specs.declared.groups.Groups.{Groups}
 use Rattle.captures.specs.declared.pattern_groups.PatternGroups.{PatternGroups}
 use Rattle.group_finder.specs.Engines.{counted}
 use Rattle.captures.specs.Patterns.{IsPatternGroups, ArePatternGroups, all_bytes, pattern_bytes}
@@ -113,6 +116,31 @@ pub one_text : (syntax config : Config) (ts : List (List ℕ)) (ps : List Patter
 one_text syntax config ts ps n p e of listed =
     let it = text_at_number config ts ps n p of listed in
     (it.0, subst (λ c. IsPatternGroups c it.0 p) (sym e) it.1)
+
+-- so the groups of all patterns are still theirs
+pub groups_kept : (old new : Groups) (n : ℕ) (p q : PatternGroups) → new.syntax ≡ old.syntax → new.size_limit ≡ old.size_limit →
+    new.patterns.items ≡ slice_set old.patterns.items n q → slice_get old.patterns.items n ≡ Some p →
+    ((t : List ℕ) → IsPatternGroups old.syntax t p → IsPatternGroups old.syntax t q) →
+    (o : Options) (ts : List (List ℕ)) → AreGroupsOf o ts old → AreGroupsOf o ts new
+groups_kept old new n p q syntax limit set listed own o ts of = record {
+  config_is = syntax ∙ of.config_is;
+  limit_is = ap bytes_allowed limit ∙ of.limit_is;
+  patterns = subst (ArePatternGroups o.syntax ts) (sym set)
+      (one_changed old.syntax o.syntax ts old.patterns.items n p q of.config_is of.patterns listed own);
+}
+
+pub keeps_groups : {A : Type 0} (old new : Groups) (n : ℕ) (p q : PatternGroups) (r : Result A CapturesError) → new.syntax ≡ old.syntax →
+    new.size_limit ≡ old.size_limit → new.patterns.items ≡ slice_set old.patterns.items n q → slice_get old.patterns.items n ≡ Some p →
+    ((t : List ℕ) → IsPatternGroups old.syntax t p → IsPatternGroups old.syntax t q) →
+    ((t : List ℕ) → IsPatternGroups old.syntax t p → (o : Options) → bytes_allowed old.size_limit ≡ limit_of o → (h : List ℕ) →
+    IfErr r (IsCapturesError o h)) →
+    KeepsGroups old new r
+keeps_groups old new n p q r syntax limit set listed own refused = record {
+  own = groups_kept old new n p q syntax limit set listed own;
+  refused = λ o ts of h.
+      let it = one_text old.syntax o.syntax ts old.patterns.items n p of.config_is of.patterns listed in
+      refused it.0 it.1 o of.limit_is h;
+}
 
 pub no_pattern : {A : Type 0} (config : Config) (ts : List (List ℕ)) (ps : List PatternGroups) (n : ℕ) (t : List ℕ) →
     ArePatternGroups config ts ps → length ps ≤ n → slice_get ts n ≡ Some t → A

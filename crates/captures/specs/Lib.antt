@@ -5,3 +5,4 @@ pub mod Captures
 pub mod Rows
 pub mod NextMatches
 pub mod Replacing
+pub mod Promises

@@ -1,8 +1,10 @@
 -- The groups of patterns.
-use Rattle.std.specs.Prelude.{◌≡◌, ℕ, ◌+◌, List, [], ◌∷◌, Some, None, IfSome, Option, ⊤, length, string_bytes}
+use Rattle.std.specs.Prelude.{◌≡◌, ℕ, ◌+◌, List, [], ◌∷◌, Some, None, IfErr, IfSome, OnOk, Option, Result, ⊤, is_some, length, string_bytes, true}
 use Rattle.regex_syntax.specs.declared.Config.{Config}
+use Rattle.group_finder.specs.Errors.{IsNewError}
 use Rattle.group_finder.specs.Patterns.{IsNamedBy, IsPattern}
 use Rattle.group_finder.specs.Groups.{IsFinderOf, finder_bytes}
+use Rattle.group_finder.specs.declared.errors.NewError.{NewError}
 use Rattle.group_finder.specs.declared.finder.GroupFinder.{GroupFinder}
 use Rattle.captures.specs.declared.pattern_groups.PatternGroups.{PatternGroups}
 
@@ -18,6 +20,13 @@ abbrev pub ArePatternGroups : Config → List (List ℕ) → List PatternGroups 
 ArePatternGroups config [] [] = ⊤
 ArePatternGroups config (t ∷ ts) (p ∷ ps) = IsPatternGroups config t p × ArePatternGroups config ts ps
 ArePatternGroups config _ _ = ⊥
+
+-- If the call returns `Ok`, the finder is made. One that was made before stays, and all of this is still of the same pattern.
+pub record MakesFinder (config : Config) (limit : ℕ) (old new : PatternGroups) (result : Result ⊤ NewError) : Type 0 where
+  pub own : (text : List ℕ) → IsPatternGroups config text old → IsPatternGroups config text new
+  pub made : OnOk result (is_some new.finder ≡ true)
+  pub kept : is_some old.finder ≡ true → is_some new.finder ≡ true
+  pub refused : (text : List ℕ) → IsPatternGroups config text old → IfErr result (IsNewError config text limit)
 
 -- ---- memory
 

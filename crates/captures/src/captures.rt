@@ -1,21 +1,17 @@
 //! Searches for one match with its groups.
-ghost use Rattle.std.specs.Prelude.{◌≡◌, ◌<◌, ◌≤◌, ◌∷◌, [], ℕ, List, Some, IfErr, IfNone, IfOk, false, length, replicate, slice_get, true};
+ghost use Rattle.std.specs.Prelude.{◌≡◌, ◌<◌, ◌≤◌, ◌∷◌, [], ℕ, List, Some, IfErr, IfOk, false, length, replicate, slice_get, true};
 ghost use Rattle.regex_hir.specs.Re.{Re, Trace, accept, attempt};
-ghost use Rattle.regex_hir.specs.Meaning.{alt_all};
-ghost use Rattle.regex_hir.specs.Find.{Match};
 ghost use Rattle.meta_regex.specs.declared.options.Options.{Options};
 ghost use Rattle.search_core.specs.Utf8.{IsValidText};
-ghost use Rattle.pattern_search.specs.Searches.{span_of_match, IsOfFirstPattern};
-ghost use Rattle.pattern_search.specs.Texts.{AreReadAs};
 ghost use Rattle.meta_regex.specs.Caches.{IsCacheOf};
-ghost use Rattle.meta_regex.specs.Regexes.{HasFoundSpan, HasFoundStart, HasPattern, as_found, config_by, span_of_row};
+ghost use Rattle.meta_regex.specs.Regexes.{HasFoundSpan, HasFoundStart, HasPattern, config_by};
 ghost use Rattle.group_finder.specs.Slots.{no_offset, slots_of};
 ghost use Rattle.group_finder.specs.Patterns.{IsParsedAs};
 ghost use Rattle.group_finder.specs.Groups.{HasSlots};
 ghost use Rattle.captures.specs.Captures.{HasCaptures};
 ghost use Rattle.captures.specs.Errors.{IsCapturesError};
 
-use crate::errors::{CapturesError, of_search};
+use crate::errors::CapturesError;
 use crate::groups::Groups;
 use group_finder::clear;
 use meta_regex::{Cache, FoundMatch, Regex};
@@ -42,6 +38,7 @@ fn write_span(start: usize, end: usize, slots: &mut [usize])
 
 impl Groups {
     ghost use Rattle.captures.specs.Groups.{AreGroupsOf};
+    ghost use Rattle.captures.specs.Promises.{FindsMatch, KeepsGroups, WritesSlots};
 
     /// Finds the match that the pattern with a number has from an offset, and its slots. It ends at or before another offset.
     #[inline]
@@ -58,10 +55,8 @@ impl Groups {
         ensures found { (o : Options) (texts : List (List ℕ)) → AreGroupsOf o texts self.old → (text : List ℕ) (a : Re) →
             slice_get texts pattern ≡ Some text → IsParsedAs o.syntax text a → (t : Trace) →
             attempt haystack.now a accept start ≡ Some t → start ≤ t.end → t.end ≤ stop → IfOk result (λ o. HasSlots start t o slots.new) }
-        ensures own { (o : Options) (texts : List (List ℕ)) → AreGroupsOf o texts self.old → AreGroupsOf o texts self.new }
+        ensures keeps { KeepsGroups self.old self.new result }
         ensures cleared { IfErr result (λ _. slots.new ≡ replicate (length slots.old) no_offset) }
-        ensures refused { (o : Options) (texts : List (List ℕ)) → AreGroupsOf o texts self.old → (h : List ℕ) →
-            IfErr result (IsCapturesError o h) }
     {
         if pattern >= self.patterns.len() {
             return Ok(None);
@@ -96,10 +91,8 @@ impl Groups {
             slice_get texts pattern ≡ Some text → IsParsedAs o.syntax text a → (t : Trace) →
             attempt haystack.now a accept start ≡ Some t → start ≤ t.end → t.end ≡ end →
             IfOk result (λ _. slots.new ≡ slots_of (record { start = start; trace = t }) (length slots.old)) }
-        ensures own { (o : Options) (texts : List (List ℕ)) → AreGroupsOf o texts self.old → AreGroupsOf o texts self.new }
+        ensures keeps { KeepsGroups self.old self.new result }
         ensures cleared { IfErr result (λ _. slots.new ≡ replicate (length slots.old) no_offset) }
-        ensures refused { (o : Options) (texts : List (List ℕ)) → AreGroupsOf o texts self.old → (h : List ℕ) →
-            IfErr result (IsCapturesError o h) }
     {
         if pattern >= self.patterns.len() {
             return Ok(());
@@ -128,13 +121,11 @@ impl Groups {
         haystack: &[u8],
         row: FoundMatch,
     ) -> Result<Option<FoundMatch>, CapturesError>
-        ensures own { (o : Options) (texts : List (List ℕ)) → AreGroupsOf o texts self.old → AreGroupsOf o texts self.new }
+        ensures keeps { KeepsGroups self.old self.new result }
         ensures found { (o : Options) (texts : List (List ℕ)) → AreGroupsOf o texts self.old → (from : ℕ) →
             HasFoundStart o.syntax texts haystack.now from (Some row) → IfOk result (HasFoundSpan o.syntax texts haystack.now from) }
         ensures pattern { (o : Options) (texts : List (List ℕ)) → AreGroupsOf o texts self.old → (from : ℕ) →
             HasFoundStart o.syntax texts haystack.now from (Some row) → IfOk result (HasPattern o.syntax texts haystack.now) }
-        ensures refused { (o : Options) (texts : List (List ℕ)) → AreGroupsOf o texts self.old → (h : List ℕ) →
-            IfErr result (IsCapturesError o h) }
     {
         match self.slots_at(
             alloc,
@@ -164,15 +155,11 @@ impl Groups {
         requires groups { AreGroupsOf regex.now.options regex.now.texts self.old }
         requires within { from ≤ length haystack.now }
         requires valid { (config_by regex.now).utf8 ≡ true → IsValidText haystack.now }
-        ensures own { IsCacheOf regex.now cache.new }
-        ensures groups { AreGroupsOf regex.now.options regex.now.texts self.new }
-        ensures found { IfOk result (HasFoundSpan (config_by regex.now) regex.now.texts haystack.now from) }
-        ensures pattern { IfOk result (HasPattern (config_by regex.now) regex.now.texts haystack.now) }
-        ensures refused { IfErr result (IsCapturesError regex.now.options haystack.now) }
+        ensures { FindsMatch regex.now cache.new self.new haystack.now (HasFoundSpan (config_by regex.now) regex.now.texts haystack.now from) result }
     {
         let found = match regex.search(alloc, cache, haystack, from) {
             Ok(found) => found,
-            Err(error) => return Err(of_search(error)),
+            Err(error) => return Err(CapturesError::Search(error)),
         };
         if regex.loops_consume() {
             return Ok(found);
@@ -180,10 +167,7 @@ impl Groups {
         let Some(row) = found else {
             return Ok(None);
         };
-        match self.find_end(alloc, haystack, row) {
-            Ok(found) => Ok(found),
-            Err(error) => Err(error),
-        }
+        self.find_end(alloc, haystack, row)
     }
 
     /// Writes the slots of the match that the pattern with a number has between two offsets, if that has a layout that was made. Returns whether
@@ -223,23 +207,12 @@ impl Groups {
         found: FoundMatch,
         slots: &mut [usize],
     ) -> Result<(), CapturesError>
-        ensures written { (o : Options) (texts : List (List ℕ)) → AreGroupsOf o texts self.old → (res : List Re) →
-            AreReadAs o.syntax texts res → IsOfFirstPattern res haystack.now (as_found found) → (m : Match) →
-            span_of_match m ≡ span_of_row found → m.start ≤ length haystack.now →
-            attempt haystack.now (alt_all res) accept m.start ≡ Some m.trace →
-            IfOk result (λ _. slots.new ≡ slots_of m (length slots.old)) }
-        ensures own { (o : Options) (texts : List (List ℕ)) → AreGroupsOf o texts self.old → AreGroupsOf o texts self.new }
-        ensures cleared { IfErr result (λ _. slots.new ≡ replicate (length slots.old) no_offset) }
-        ensures refused { (o : Options) (texts : List (List ℕ)) → AreGroupsOf o texts self.old → (h : List ℕ) →
-            IfErr result (IsCapturesError o h) }
+        ensures { WritesSlots self.old self.new haystack.now found slots.old slots.new result }
     {
         if self.write_by_layout(haystack, found.pattern, found.start, found.end, slots) {
             return Ok(());
         }
-        match self.search_slots(alloc, haystack, found, slots) {
-            Ok(()) => Ok(()),
-            Err(error) => Err(error),
-        }
+        self.search_slots(alloc, haystack, found, slots)
     }
 
     /// Writes the slots of a match that was found. Only slots after the first two need a search. It is a call of its own, since its frame is
@@ -252,15 +225,7 @@ impl Groups {
         found: FoundMatch,
         slots: &mut [usize],
     ) -> Result<(), CapturesError>
-        ensures written { (o : Options) (texts : List (List ℕ)) → AreGroupsOf o texts self.old → (res : List Re) →
-            AreReadAs o.syntax texts res → IsOfFirstPattern res haystack.now (as_found found) → (m : Match) →
-            span_of_match m ≡ span_of_row found → m.start ≤ length haystack.now →
-            attempt haystack.now (alt_all res) accept m.start ≡ Some m.trace →
-            IfOk result (λ _. slots.new ≡ slots_of m (length slots.old)) }
-        ensures own { (o : Options) (texts : List (List ℕ)) → AreGroupsOf o texts self.old → AreGroupsOf o texts self.new }
-        ensures cleared { IfErr result (λ _. slots.new ≡ replicate (length slots.old) no_offset) }
-        ensures refused { (o : Options) (texts : List (List ℕ)) → AreGroupsOf o texts self.old → (h : List ℕ) →
-            IfErr result (IsCapturesError o h) }
+        ensures { WritesSlots self.old self.new haystack.now found slots.old slots.new result }
     {
         if slots.len() < 2 {
             write_start(found.start, slots);
@@ -314,7 +279,7 @@ impl Groups {
             Ok(()) => {}
             Err(error) => {
                 clear(slots);
-                return Err(of_search(error));
+                return Err(CapturesError::Search(error));
             }
         }
         let found = match self.find(alloc, regex, cache, haystack, from) {

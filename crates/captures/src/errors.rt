@@ -1,8 +1,6 @@
 //! Why no match is returned with its groups.
 ghost use Rattle.std.specs.Prelude.{◌≡◌, ℕ, List};
 ghost use Rattle.regex_syntax.specs.declared.Config.{Config as TextConfig};
-ghost use Rattle.meta_regex.specs.Options.{config_of};
-ghost use Rattle.meta_regex.specs.Regexes.{IsSearchError};
 ghost use Rattle.meta_regex.specs.declared.options.Options.{Options};
 ghost use Rattle.group_finder.specs.Errors.{IsNewError, bytes_allowed};
 ghost use Rattle.group_finder.specs.Patterns.{IsPattern};
@@ -21,13 +19,6 @@ pub enum CapturesError {
     NoMemory,
     /// What finds the groups of a pattern would take more than this many bytes: the limit of the options, or 16 GiB.
     TooLarge(usize),
-}
-
-/// The cause of an error of a search.
-pub(crate) fn of_search(error: SearchError) -> CapturesError
-    ensures { (o : Options) → (h : List ℕ) → IsSearchError (config_of o) h error → IsCapturesError o h result }
-{
-    CapturesError::Search(error)
 }
 
 /// The cause of an error of making a finder of a pattern. It isn't about the syntax, since the names of the groups were read in the pattern.

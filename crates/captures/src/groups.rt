@@ -1,10 +1,10 @@
 //! The groups of the patterns of a regex.
-ghost use Rattle.std.specs.Prelude.{◌≡◌, ◌<◌, ◌++◌, ◌∷◌, [], ℕ, List, Some, None, IfErr, IfOk, OnOk, length, map, option_map, slice_get, vec_len};
+ghost use Rattle.std.specs.Prelude.{◌≡◌, ◌<◌, ◌++◌, ◌∷◌, [], ℕ, List, Some, None, IfErr, IfOk, OnOk, length, map, option_map, slice_get};
 ghost use Rattle.meta_regex.specs.declared.options.Options.{Options as RegexOptions};
 ghost use Rattle.regex_syntax.specs.Grammar.{Names};
 ghost use Rattle.group_finder.specs.Patterns.{IsNamedBy, name_at};
 ghost use Rattle.group_finder.specs.Engines.{counted};
-ghost use Rattle.captures.specs.Errors.{IsGroupsError, IsPrepareError};
+ghost use Rattle.captures.specs.Errors.{IsGroupsError};
 ghost use Rattle.captures.specs.Patterns.{ArePatternGroups, all_bytes};
 
 use crate::pattern_groups::{PatternGroups, groups_of};
@@ -58,6 +58,7 @@ fn all_groups_of(
 
 impl Groups {
     ghost use Rattle.captures.specs.Groups.{AreGroupsOf, IsPrepared};
+    ghost use Rattle.captures.specs.Promises.{Prepares};
 
     /// The groups of patterns, without what finds them.
     pub fn new(alloc: Global, texts: &[&str], options: &Options) -> Result<Groups, NewError>
@@ -78,10 +79,7 @@ impl Groups {
     /// Makes what finds the groups of all patterns. Otherwise a search makes it for the pattern of its match. After an error, what was made
     /// stays.
     pub fn prepare(&mut self, alloc: Global) -> Result<(), NewError>
-        ensures own { (o : RegexOptions) (texts : List (List ℕ)) → AreGroupsOf o texts self.old → AreGroupsOf o texts self.new }
-        ensures made { OnOk result ((n : ℕ) → IsPrepared self.new n) }
-        ensures kept { (n : ℕ) → IsPrepared self.old n → IsPrepared self.new n }
-        ensures refused { (o : RegexOptions) (texts : List (List ℕ)) → AreGroupsOf o texts self.old → IfErr result (IsPrepareError o) }
+        ensures { Prepares self.old self.new ((n : ℕ) → IsPrepared self.new n) result }
     {
         for pattern in 0..self.patterns.len() {
             match self.prepare_one(alloc, pattern) {
@@ -95,17 +93,10 @@ impl Groups {
     /// Makes what finds the groups of one pattern.
     fn prepare_one(&mut self, alloc: Global, pattern: usize) -> Result<(), NewError>
         requires { pattern < length self.old.patterns.items }
-        ensures own { (o : RegexOptions) (texts : List (List ℕ)) → AreGroupsOf o texts self.old → AreGroupsOf o texts self.new }
-        ensures made { OnOk result (IsPrepared self.new pattern) }
-        ensures kept { (n : ℕ) → IsPrepared self.old n → IsPrepared self.new n }
+        ensures prepares { Prepares self.old self.new (IsPrepared self.new pattern) result }
         ensures same { length self.new.patterns.items ≡ length self.old.patterns.items }
-        ensures refused { (o : RegexOptions) (texts : List (List ℕ)) → AreGroupsOf o texts self.old → IfErr result (IsPrepareError o) }
     {
-        match self.patterns[pattern].prepare(alloc, &self.syntax, self.size_limit) {
-            Ok(()) => {}
-            Err(error) => return Err(error),
-        }
-        Ok(())
+        self.patterns[pattern].prepare(alloc, &self.syntax, self.size_limit)
     }
 
     /// The bytes that are counted for the patterns: their own, and those of what finds their groups, as

@@ -8,14 +8,12 @@ ghost use Rattle.search_core.specs.Utf8.{IsValidText};
 ghost use Rattle.pattern_search.specs.Searches.{span_of_match, IsOfFirstPattern};
 ghost use Rattle.pattern_search.specs.Texts.{AreReadAs};
 ghost use Rattle.meta_regex.specs.Caches.{IsCacheOf};
-ghost use Rattle.meta_regex.specs.Regexes.{AreAll, AreFirstOfAll, HasPattern, IsNext, as_found, config_by, overlaid, span_of_row};
+ghost use Rattle.meta_regex.specs.Regexes.{IsNext, as_found, config_by, overlaid, span_of_row};
 ghost use Rattle.meta_regex.specs.declared.options.Options.{Options};
 ghost use Rattle.group_finder.specs.Slots.{no_offset, slots_of};
-ghost use Rattle.captures.specs.Captures.{AreCaptured, AreFirstCaptured};
-ghost use Rattle.captures.specs.Errors.{IsCapturesError};
 ghost use Rattle.captures.specs.Rows.{AreFilled};
 
-use crate::errors::{CapturesError, of_search};
+use crate::errors::CapturesError;
 use crate::groups::Groups;
 use meta_regex::{Cache, FoundMatch, Regex};
 use std::alloc::Global;
@@ -41,6 +39,7 @@ fn ends_at(found: Option<FoundMatch>, offset: usize) -> bool
 
 impl Groups {
     ghost use Rattle.captures.specs.Groups.{AreGroupsOf};
+    ghost use Rattle.captures.specs.Promises.{FindsMatch, KeepsGroups, ListsAll};
 
     /// The match that follows one that ended at this offset. An empty match right there is skipped. There is none after the haystack.
     pub(crate) fn find_next(
@@ -54,11 +53,7 @@ impl Groups {
         requires own { IsCacheOf regex.now cache.old }
         requires groups { AreGroupsOf regex.now.options regex.now.texts self.old }
         requires valid { (config_by regex.now).utf8 ≡ true → IsValidText haystack.now }
-        ensures own { IsCacheOf regex.now cache.new }
-        ensures groups { AreGroupsOf regex.now.options regex.now.texts self.new }
-        ensures next { IfOk result (IsNext (config_by regex.now) regex.now.texts haystack.now end) }
-        ensures pattern { IfOk result (HasPattern (config_by regex.now) regex.now.texts haystack.now) }
-        ensures refused { IfErr result (IsCapturesError regex.now.options haystack.now) }
+        ensures { FindsMatch regex.now cache.new self.new haystack.now (IsNext (config_by regex.now) regex.now.texts haystack.now end) result }
     {
         if haystack.len() < end {
             return Ok(None);
@@ -73,11 +68,7 @@ impl Groups {
         if haystack.len() == end {
             return Ok(None);
         }
-        let later = match self.find(alloc, regex, cache, haystack, end + 1) {
-            Ok(later) => later,
-            Err(error) => return Err(error),
-        };
-        Ok(later)
+        self.find(alloc, regex, cache, haystack, end + 1)
     }
 
     /// Writes the slots of a match after those that are filled, as far as there is room, and returns how many are filled then.
@@ -96,11 +87,9 @@ impl Groups {
             span_of_match m ≡ span_of_row found → m.start ≤ length haystack.now →
             attempt haystack.now (alt_all res) accept m.start ≡ Some m.trace → (done old : List ℕ) → AreFilled done old slots.old filled →
             IfOk result (AreFilled (done ++ slots_of m width) old slots.new) }
-        ensures own { (o : Options) (texts : List (List ℕ)) → AreGroupsOf o texts self.old → AreGroupsOf o texts self.new }
         ensures cleared { (done old : List ℕ) → AreFilled done old slots.old filled →
             IfErr result (λ _. slots.new ≡ overlaid (done ++ replicate width no_offset) old) }
-        ensures refused { (o : Options) (texts : List (List ℕ)) → AreGroupsOf o texts self.old → (h : List ℕ) →
-            IfErr result (IsCapturesError o h) }
+        ensures keeps { KeepsGroups self.old self.new result }
     {
         if filled > slots.len() {
             return Ok(filled);
@@ -131,14 +120,7 @@ impl Groups {
         requires own { IsCacheOf regex.now cache.old }
         requires groups { AreGroupsOf regex.now.options regex.now.texts self.old }
         requires valid { (config_by regex.now).utf8 ≡ true → IsValidText haystack.now }
-        ensures own { IsCacheOf regex.now cache.new }
-        ensures groups { AreGroupsOf regex.now.options regex.now.texts self.new }
-        ensures all { IfOk result.1 (λ _. AreAll (config_by regex.now) regex.now.texts haystack.now result.0 rows.old rows.new) }
-        ensures first { IfErr result.1 (λ _. AreFirstOfAll (config_by regex.now) regex.now.texts haystack.now result.0 rows.old rows.new) }
-        ensures slots { IfOk result.1 (λ _. AreCaptured (config_by regex.now) regex.now.texts haystack.now width slots.old slots.new) }
-        ensures begun { IfErr result.1
-            (λ _. AreFirstCaptured (config_by regex.now) regex.now.texts haystack.now width result.0 slots.old slots.new) }
-        ensures refused { IfErr result.1 (IsCapturesError regex.now.options haystack.now) }
+        ensures { ListsAll regex.now cache.new self.new haystack.now rows.old rows.new slots.old slots.new width result }
     {
         let mut next = match self.find(alloc, regex, cache, haystack, 0) {
             Ok(next) => next,
@@ -185,18 +167,11 @@ impl Groups {
     ) -> (usize, Result<(), CapturesError>)
         requires own { IsCacheOf regex.now cache.old }
         requires groups { AreGroupsOf regex.now.options regex.now.texts self.old }
-        ensures own { IsCacheOf regex.now cache.new }
-        ensures groups { AreGroupsOf regex.now.options regex.now.texts self.new }
-        ensures all { IfOk result.1 (λ _. AreAll (config_by regex.now) regex.now.texts haystack.now result.0 rows.old rows.new) }
-        ensures first { IfErr result.1 (λ _. AreFirstOfAll (config_by regex.now) regex.now.texts haystack.now result.0 rows.old rows.new) }
-        ensures slots { IfOk result.1 (λ _. AreCaptured (config_by regex.now) regex.now.texts haystack.now width slots.old slots.new) }
-        ensures begun { IfErr result.1
-            (λ _. AreFirstCaptured (config_by regex.now) regex.now.texts haystack.now width result.0 slots.old slots.new) }
-        ensures refused { IfErr result.1 (IsCapturesError regex.now.options haystack.now) }
+        ensures { ListsAll regex.now cache.new self.new haystack.now rows.old rows.new slots.old slots.new width result }
     {
         match regex.check(haystack) {
             Ok(()) => self.list(alloc, regex, cache, haystack, rows, slots, width),
-            Err(error) => (0, Err(of_search(error))),
+            Err(error) => (0, Err(CapturesError::Search(error))),
         }
     }
 }

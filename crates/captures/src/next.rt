@@ -1,12 +1,11 @@
 //! Matches from an offset on, with their groups.
-ghost use Rattle.std.specs.Prelude.{◌≡◌, ◌<◌, ◌≤◌, ◌^◌, IfErr, IfOk, length, true};
+ghost use Rattle.std.specs.Prelude.{◌≡◌, ◌<◌, ◌≤◌, ◌^◌, length, true};
 ghost use Rattle.search_core.specs.Utf8.{IsValidText};
 ghost use Rattle.meta_regex.specs.Caches.{IsCacheOf};
-ghost use Rattle.meta_regex.specs.Regexes.{HasFoundSpan, HasPattern, config_by};
-ghost use Rattle.captures.specs.Errors.{IsCapturesError};
-ghost use Rattle.captures.specs.NextMatches.{AreNext, AreNextBegun, AreNextCaptured, IsFullOrLast, after_span};
+ghost use Rattle.meta_regex.specs.Regexes.{HasFoundSpan, config_by};
+ghost use Rattle.captures.specs.NextMatches.{after_span};
 
-use crate::errors::{CapturesError, of_search};
+use crate::errors::CapturesError;
 use crate::groups::Groups;
 use meta_regex::{Cache, FoundMatch, Regex};
 use std::alloc::Global;
@@ -26,6 +25,7 @@ fn after(found: FoundMatch, len: usize) -> usize
 
 impl Groups {
     ghost use Rattle.captures.specs.Groups.{AreGroupsOf};
+    ghost use Rattle.captures.specs.Promises.{FindsMatch, ListsNext};
 
     /// The match from an offset on. There is none after the haystack.
     #[inline(always)]
@@ -40,19 +40,12 @@ impl Groups {
         requires own { IsCacheOf regex.now cache.old }
         requires groups { AreGroupsOf regex.now.options regex.now.texts self.old }
         requires valid { (config_by regex.now).utf8 ≡ true → IsValidText haystack.now }
-        ensures own { IsCacheOf regex.now cache.new }
-        ensures groups { AreGroupsOf regex.now.options regex.now.texts self.new }
-        ensures found { IfOk result (HasFoundSpan (config_by regex.now) regex.now.texts haystack.now from) }
-        ensures pattern { IfOk result (HasPattern (config_by regex.now) regex.now.texts haystack.now) }
-        ensures refused { IfErr result (IsCapturesError regex.now.options haystack.now) }
+        ensures { FindsMatch regex.now cache.new self.new haystack.now (HasFoundSpan (config_by regex.now) regex.now.texts haystack.now from) result }
     {
         if from > haystack.len() {
             return Ok(None);
         }
-        match self.find(alloc, regex, cache, haystack, from) {
-            Ok(found) => Ok(found),
-            Err(error) => Err(error),
-        }
+        self.find(alloc, regex, cache, haystack, from)
     }
 
     /// Writes the next matches into the rows, and their slots.
@@ -70,16 +63,7 @@ impl Groups {
         requires own { IsCacheOf regex.now cache.old }
         requires groups { AreGroupsOf regex.now.options regex.now.texts self.old }
         requires valid { (config_by regex.now).utf8 ≡ true → IsValidText haystack.now }
-        ensures own { IsCacheOf regex.now cache.new }
-        ensures groups { AreGroupsOf regex.now.options regex.now.texts self.new }
-        ensures next { AreNext (config_by regex.now) regex.now.texts haystack.now from.old result.0 from.new rows.old rows.new }
-        ensures all { IfOk result.1
-            (λ _. IsFullOrLast (config_by regex.now) regex.now.texts haystack.now (length rows.old) result.0 from.new) }
-        ensures slots { IfOk result.1
-            (λ _. AreNextCaptured (config_by regex.now) regex.now.texts haystack.now from.old width result.0 slots.old slots.new) }
-        ensures begun { IfErr result.1
-            (λ _. AreNextBegun (config_by regex.now) regex.now.texts haystack.now from.old width result.0 slots.old slots.new) }
-        ensures refused { IfErr result.1 (IsCapturesError regex.now.options haystack.now) }
+        ensures { ListsNext regex.now cache.new self.new haystack.now from.old from.new rows.old rows.new slots.old slots.new width result }
     {
         let mut filled = 0usize;
         for count in 0..rows.len() {
@@ -123,20 +107,11 @@ impl Groups {
     ) -> (usize, Result<(), CapturesError>)
         requires own { IsCacheOf regex.now cache.old }
         requires groups { AreGroupsOf regex.now.options regex.now.texts self.old }
-        ensures own { IsCacheOf regex.now cache.new }
-        ensures groups { AreGroupsOf regex.now.options regex.now.texts self.new }
-        ensures next { AreNext (config_by regex.now) regex.now.texts haystack.now from.old result.0 from.new rows.old rows.new }
-        ensures all { IfOk result.1
-            (λ _. IsFullOrLast (config_by regex.now) regex.now.texts haystack.now (length rows.old) result.0 from.new) }
-        ensures slots { IfOk result.1
-            (λ _. AreNextCaptured (config_by regex.now) regex.now.texts haystack.now from.old width result.0 slots.old slots.new) }
-        ensures begun { IfErr result.1
-            (λ _. AreNextBegun (config_by regex.now) regex.now.texts haystack.now from.old width result.0 slots.old slots.new) }
-        ensures refused { IfErr result.1 (IsCapturesError regex.now.options haystack.now) }
+        ensures { ListsNext regex.now cache.new self.new haystack.now from.old from.new rows.old rows.new slots.old slots.new width result }
     {
         match regex.check(haystack) {
             Ok(()) => self.list_next(alloc, regex, cache, haystack, from, rows, slots, width),
-            Err(error) => (0, Err(of_search(error))),
+            Err(error) => (0, Err(CapturesError::Search(error))),
         }
     }
 }

@@ -1,5 +1,5 @@
 //! The groups of one pattern.
-ghost use Rattle.std.specs.Prelude.{◌≡◌, ◌≤◌, ℕ, List, IfErr, IfNone, IfOk, IfSome, OnOk, Some, false, is_some, length, replicate, true};
+ghost use Rattle.std.specs.Prelude.{◌≡◌, ◌≤◌, ℕ, List, IfErr, IfOk, Some, false, is_some, length, replicate, true};
 ghost use Rattle.regex_hir.specs.Re.{Re, Trace, accept, attempt};
 ghost use Rattle.meta_regex.specs.declared.options.Options.{Options};
 ghost use Rattle.group_finder.specs.Engines.{counted};
@@ -9,7 +9,7 @@ ghost use Rattle.group_finder.specs.Patterns.{IsParsedAs};
 ghost use Rattle.group_finder.specs.Groups.{HasSlots};
 ghost use Rattle.captures.specs.Errors.{IsCapturesError};
 ghost use Rattle.captures.specs.Groups.{limit_of};
-ghost use Rattle.captures.specs.Patterns.{IsPatternGroups, pattern_bytes};
+ghost use Rattle.captures.specs.Patterns.{IsPatternGroups, MakesFinder, pattern_bytes};
 
 use crate::errors::{CapturesError, of_new};
 use group_finder::{GroupFinder, GroupNames, NewError, clear};
@@ -69,10 +69,7 @@ impl PatternGroups {
         config: &Config,
         size_limit: usize,
     ) -> Result<(), NewError>
-        ensures own { (text : List ℕ) → IsPatternGroups config.now text self.old → IsPatternGroups config.now text self.new }
-        ensures made { OnOk result (is_some self.new.finder ≡ true) }
-        ensures kept { is_some self.old.finder ≡ true → is_some self.new.finder ≡ true }
-        ensures refused { (text : List ℕ) → IsPatternGroups config.now text self.old → IfErr result (IsNewError config.now text size_limit) }
+        ensures { MakesFinder config.now size_limit self.old self.new result }
     {
         let finder = match GroupFinder::new(
             alloc,
@@ -95,18 +92,12 @@ impl PatternGroups {
         config: &Config,
         size_limit: usize,
     ) -> Result<(), NewError>
-        ensures own { (text : List ℕ) → IsPatternGroups config.now text self.old → IsPatternGroups config.now text self.new }
-        ensures made { OnOk result (is_some self.new.finder ≡ true) }
-        ensures kept { is_some self.old.finder ≡ true → is_some self.new.finder ≡ true }
-        ensures refused { (text : List ℕ) → IsPatternGroups config.now text self.old → IfErr result (IsNewError config.now text size_limit) }
+        ensures { MakesFinder config.now size_limit self.old self.new result }
     {
         if self.finder.is_some() {
             return Ok(());
         }
-        match self.make_finder(alloc, config, size_limit) {
-            Ok(()) => Ok(()),
-            Err(error) => Err(error),
-        }
+        self.make_finder(alloc, config, size_limit)
     }
 
     /// Finds the match that the pattern has from an offset, and its slots, as [`GroupFinder::groups_at`] does.

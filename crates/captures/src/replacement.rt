@@ -1,5 +1,5 @@
 //! Replacements that are read for the patterns of a regex.
-ghost use Rattle.std.specs.Prelude.{◌≡◌, ◌≤◌, ◌<◌, ◌⊎◌, ◌++◌, ◌∷◌, [], ℕ, List, IfOk, IfSome, OnOk, length};
+ghost use Rattle.std.specs.Prelude.{◌≡◌, ◌≤◌, ◌<◌, ◌⊎◌, ◌++◌, ◌∷◌, [], ℕ, List, IfOk, OnOk};
 ghost use Rattle.meta_regex.specs.declared.options.Options.{Options};
 ghost use Rattle.templates.specs.Expansion.{template_text};
 

@@ -1,5 +1,5 @@
 //! Replacing matches.
-ghost use Rattle.std.specs.Prelude.{◌≡◌, ◌≢◌, ◌+◌, ◌*◌, ◌≤◌, ◌==◌, ◌++◌, ℕ, List, IfErr, IfOk, OnErr, OnOk, Some, if◌then◌else◌, length, min, slice_range, true};
+ghost use Rattle.std.specs.Prelude.{◌≡◌, ◌+◌, ◌*◌, ◌≤◌, ◌==◌, ◌++◌, ℕ, List, IfErr, IfOk, OnErr, OnOk, Some, if◌then◌else◌, length, min, slice_range, true};
 ghost use Rattle.std.specs.Prelude.{◌<◌, ◌^◌};
 ghost use Rattle.std.specs.Option.{unwrap_or};
 ghost use Rattle.regex_hir.specs.Re.{Re, accept, attempt};
@@ -9,12 +9,12 @@ ghost use Rattle.search_core.specs.Utf8.{IsValidText};
 ghost use Rattle.pattern_search.specs.Searches.{span_of_match, IsOfFirstPattern};
 ghost use Rattle.pattern_search.specs.Texts.{AreReadAs};
 ghost use Rattle.meta_regex.specs.Caches.{IsCacheOf};
-ghost use Rattle.meta_regex.specs.Regexes.{HasPattern, as_found, config_by, span_of_row};
+ghost use Rattle.meta_regex.specs.Regexes.{as_found, config_by, span_of_row};
 ghost use Rattle.meta_regex.specs.declared.options.Options.{Options};
 ghost use Rattle.captures.specs.Errors.{IsCapturesError};
 ghost use Rattle.captures.specs.Replacing.{ComesNext, Continues, IsReplaced, IsReplacementFor, Said, written_for};
 
-use crate::errors::{CapturesError, of_search};
+use crate::errors::CapturesError;
 use crate::groups::Groups;
 use crate::replacement::Replacement;
 use meta_regex::{Cache, FoundMatch, Regex};
@@ -51,19 +51,16 @@ fn append_between(
     start: usize,
     end: usize,
     output: &mut Vec<u8>,
-) -> Result<(), CapturesError>
+) -> Result<(), AllocError>
     ensures appended { OnOk result (output.new.items ≡ output.old.items ++ slice_range haystack.now start end) }
     ensures kept { OnErr result (output.new.items ≡ output.old.items) }
-    ensures refused { IfErr result (λ e. (o : Options) (h : List ℕ) → IsCapturesError o h e) }
 {
-    match output.extend_from_slice(bytes_between(haystack, start, end)) {
-        Ok(()) => Ok(()),
-        Err(_) => Err(CapturesError::NoMemory),
-    }
+    output.extend_from_slice(bytes_between(haystack, start, end))
 }
 
 impl Groups {
     ghost use Rattle.captures.specs.Groups.{AreGroupsOf};
+    ghost use Rattle.captures.specs.Promises.{FindsMatch, KeepsGroups, ReplacesMatches};
 
     /// The first match, or the one that follows a match with this end.
     pub(crate) fn find_after(
@@ -77,11 +74,7 @@ impl Groups {
         requires own { IsCacheOf regex.now cache.old }
         requires groups { AreGroupsOf regex.now.options regex.now.texts self.old }
         requires valid { (config_by regex.now).utf8 ≡ true → IsValidText haystack.now }
-        ensures own { IsCacheOf regex.now cache.new }
-        ensures groups { AreGroupsOf regex.now.options regex.now.texts self.new }
-        ensures next { IfOk result (ComesNext (config_by regex.now) regex.now.texts haystack.now last) }
-        ensures pattern { IfOk result (HasPattern (config_by regex.now) regex.now.texts haystack.now) }
-        ensures refused { IfErr result (IsCapturesError regex.now.options haystack.now) }
+        ensures { FindsMatch regex.now cache.new self.new haystack.now (ComesNext (config_by regex.now) regex.now.texts haystack.now last) result }
     {
         match last {
             None => self.find(alloc, regex, cache, haystack, 0),
@@ -106,9 +99,7 @@ impl Groups {
             m.start ≤ length haystack.now → attempt haystack.now (alt_all res) accept m.start ≡ Some m.trace →
             OnOk result (output.new.items ≡ output.old.items ++ written_for texts res haystack.now said m) }
         ensures longer { Continues output.old.items output.new.items }
-        ensures own { (o : Options) (texts : List (List ℕ)) → AreGroupsOf o texts self.old → AreGroupsOf o texts self.new }
-        ensures refused { (o : Options) (texts : List (List ℕ)) → AreGroupsOf o texts self.old → (h : List ℕ) →
-            IfErr result (IsCapturesError o h) }
+        ensures keeps { KeepsGroups self.old self.new result }
     {
         match self.write_slots(alloc, haystack, found, slots) {
             Ok(()) => {}
@@ -156,13 +147,13 @@ impl Groups {
             let Some(found) = next else {
                 match append_between(haystack, last.unwrap_or(0), haystack.len(), output) {
                     Ok(()) => {}
-                    Err(error) => return Err(error),
+                    Err(_) => return Err(CapturesError::NoMemory),
                 }
                 return Ok(count);
             };
             match append_between(haystack, last.unwrap_or(0), found.start, output) {
                 Ok(()) => {}
-                Err(error) => return Err(error),
+                Err(_) => return Err(CapturesError::NoMemory),
             }
             match self.append_replaced(alloc, haystack, found, replacement, slots, output) {
                 Ok(()) => {}
@@ -172,7 +163,7 @@ impl Groups {
         }
         match append_between(haystack, last.unwrap_or(0), haystack.len(), output) {
             Ok(()) => Ok(most),
-            Err(error) => Err(error),
+            Err(_) => Err(CapturesError::NoMemory),
         }
     }
 
@@ -190,12 +181,7 @@ impl Groups {
         requires own { IsCacheOf regex.now cache.old }
         requires groups { AreGroupsOf regex.now.options regex.now.texts self.old }
         requires valid { (config_by regex.now).utf8 ≡ true → IsValidText haystack.now }
-        ensures own { IsCacheOf regex.now cache.new }
-        ensures groups { AreGroupsOf regex.now.options regex.now.texts self.new }
-        ensures replaced { (said : Said) → IsReplacementFor (config_by regex.now) regex.now.texts said replacement.now →
-            IfOk result (IsReplaced (config_by regex.now) regex.now.texts haystack.now said limit output.old.items output.new.items) }
-        ensures kept { OnErr result (output.new.items ≡ output.old.items) }
-        ensures refused { IfErr result (IsCapturesError regex.now.options haystack.now) }
+        ensures { ReplacesMatches regex.now cache.new self.new haystack.now replacement.now limit output.old.items output.new.items result }
     {
         let mut slots = match slots_for(alloc, replacement.groups) {
             Ok(slots) => slots,
@@ -236,16 +222,11 @@ impl Groups {
     ) -> Result<usize, CapturesError>
         requires own { IsCacheOf regex.now cache.old }
         requires groups { AreGroupsOf regex.now.options regex.now.texts self.old }
-        ensures own { IsCacheOf regex.now cache.new }
-        ensures groups { AreGroupsOf regex.now.options regex.now.texts self.new }
-        ensures replaced { (said : Said) → IsReplacementFor (config_by regex.now) regex.now.texts said replacement.now →
-            IfOk result (IsReplaced (config_by regex.now) regex.now.texts haystack.now said limit output.old.items output.new.items) }
-        ensures kept { OnErr result (output.new.items ≡ output.old.items) }
-        ensures refused { IfErr result (IsCapturesError regex.now.options haystack.now) }
+        ensures { ReplacesMatches regex.now cache.new self.new haystack.now replacement.now limit output.old.items output.new.items result }
     {
         match regex.check(haystack) {
             Ok(()) => {}
-            Err(error) => return Err(of_search(error)),
+            Err(error) => return Err(CapturesError::Search(error)),
         }
         self.replace_checked(alloc, regex, cache, haystack, replacement, limit, output)
     }
@@ -262,12 +243,7 @@ impl Groups {
     ) -> Result<usize, CapturesError>
         requires own { IsCacheOf regex.now cache.old }
         requires groups { AreGroupsOf regex.now.options regex.now.texts self.old }
-        ensures own { IsCacheOf regex.now cache.new }
-        ensures groups { AreGroupsOf regex.now.options regex.now.texts self.new }
-        ensures replaced { (said : Said) → IsReplacementFor (config_by regex.now) regex.now.texts said replacement.now →
-            IfOk result (IsReplaced (config_by regex.now) regex.now.texts haystack.now said 0 output.old.items output.new.items) }
-        ensures kept { OnErr result (output.new.items ≡ output.old.items) }
-        ensures refused { IfErr result (IsCapturesError regex.now.options haystack.now) }
+        ensures { ReplacesMatches regex.now cache.new self.new haystack.now replacement.now 0 output.old.items output.new.items result }
     {
         self.replacen(alloc, regex, cache, haystack, replacement, 0, output)
     }
@@ -284,12 +260,7 @@ impl Groups {
     ) -> Result<usize, CapturesError>
         requires own { IsCacheOf regex.now cache.old }
         requires groups { AreGroupsOf regex.now.options regex.now.texts self.old }
-        ensures own { IsCacheOf regex.now cache.new }
-        ensures groups { AreGroupsOf regex.now.options regex.now.texts self.new }
-        ensures replaced { (said : Said) → IsReplacementFor (config_by regex.now) regex.now.texts said replacement.now →
-            IfOk result (IsReplaced (config_by regex.now) regex.now.texts haystack.now said 1 output.old.items output.new.items) }
-        ensures kept { OnErr result (output.new.items ≡ output.old.items) }
-        ensures refused { IfErr result (IsCapturesError regex.now.options haystack.now) }
+        ensures { ReplacesMatches regex.now cache.new self.new haystack.now replacement.now 1 output.old.items output.new.items result }
     {
         self.replacen(alloc, regex, cache, haystack, replacement, 1, output)
     }

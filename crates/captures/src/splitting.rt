@@ -1,12 +1,11 @@
 //! Splitting haystacks at matches.
-ghost use Rattle.std.specs.Prelude.{◌≡◌, ◌≢◌, Some, None, ◌<◌, ◌^◌, ℕ, List, IfErr, IfOk, length, slice_set, true};
+ghost use Rattle.std.specs.Prelude.{◌≡◌, ◌≢◌, Some, None, ◌<◌, ◌^◌, length, slice_set, true};
 ghost use Rattle.search_core.specs.Utf8.{IsValidText};
 ghost use Rattle.meta_regex.specs.Caches.{IsCacheOf};
 ghost use Rattle.meta_regex.specs.Regexes.{config_by};
-ghost use Rattle.captures.specs.Errors.{IsCapturesError};
-ghost use Rattle.captures.specs.Replacing.{AreAllPieces, AreFirstPieces, most_cuts};
+ghost use Rattle.captures.specs.Replacing.{most_cuts};
 
-use crate::errors::{CapturesError, of_search};
+use crate::errors::CapturesError;
 use crate::groups::Groups;
 use meta_regex::{Cache, Regex};
 use std::alloc::Global;
@@ -33,6 +32,7 @@ fn most_cuts(limit: Option<usize>, len: usize) -> usize
 
 impl Groups {
     ghost use Rattle.captures.specs.Groups.{AreGroupsOf};
+    ghost use Rattle.captures.specs.Promises.{ListsPieces};
 
     /// Writes the spans of the first pieces into the rows. There is at least one.
     fn split_matches(
@@ -48,13 +48,7 @@ impl Groups {
         requires groups { AreGroupsOf regex.now.options regex.now.texts self.old }
         requires valid { (config_by regex.now).utf8 ≡ true → IsValidText haystack.now }
         requires some { limit ≢ Some 0 }
-        ensures own { IsCacheOf regex.now cache.new }
-        ensures groups { AreGroupsOf regex.now.options regex.now.texts self.new }
-        ensures all { IfOk result.1
-            (λ _. AreAllPieces (config_by regex.now) regex.now.texts haystack.now limit result.0 rows.old rows.new) }
-        ensures first { IfErr result.1
-            (λ _. AreFirstPieces (config_by regex.now) regex.now.texts haystack.now limit result.0 rows.old rows.new) }
-        ensures refused { IfErr result.1 (IsCapturesError regex.now.options haystack.now) }
+        ensures { ListsPieces regex.now cache.new self.new haystack.now limit rows.old rows.new result }
     {
         let most = most_cuts(limit, haystack.len());
         let mut last: Option<usize> = None;
@@ -74,7 +68,7 @@ impl Groups {
         (most + 1, Ok(()))
     }
 
-    /// Splits a haystack, if it is UTF-8 or need not be.
+    /// ListsPieces a haystack, if it is UTF-8 or need not be.
     fn split_limited(
         &mut self,
         alloc: Global,
@@ -86,17 +80,11 @@ impl Groups {
     ) -> (usize, Result<(), CapturesError>)
         requires own { IsCacheOf regex.now cache.old }
         requires groups { AreGroupsOf regex.now.options regex.now.texts self.old }
-        ensures own { IsCacheOf regex.now cache.new }
-        ensures groups { AreGroupsOf regex.now.options regex.now.texts self.new }
-        ensures all { IfOk result.1
-            (λ _. AreAllPieces (config_by regex.now) regex.now.texts haystack.now limit result.0 rows.old rows.new) }
-        ensures first { IfErr result.1
-            (λ _. AreFirstPieces (config_by regex.now) regex.now.texts haystack.now limit result.0 rows.old rows.new) }
-        ensures refused { IfErr result.1 (IsCapturesError regex.now.options haystack.now) }
+        ensures { ListsPieces regex.now cache.new self.new haystack.now limit rows.old rows.new result }
     {
         match regex.check(haystack) {
             Ok(()) => {}
-            Err(error) => return (0, Err(of_search(error))),
+            Err(error) => return (0, Err(CapturesError::Search(error))),
         }
         if let Some(0) = limit {
             return (0, Ok(()));
@@ -104,7 +92,7 @@ impl Groups {
         self.split_matches(alloc, regex, cache, haystack, limit, rows)
     }
 
-    /// Splits a haystack at its matches, and returns how many pieces there are between them, however many there is room for. The last piece is
+    /// ListsPieces a haystack at its matches, and returns how many pieces there are between them, however many there is room for. The last piece is
     /// what follows the last match. A haystack without a match is one piece, also if it is empty.
     ///
     /// `rows` get the spans of the first pieces, as many as they have room for: the start and the end, as offsets in bytes. Rows after the
@@ -119,18 +107,12 @@ impl Groups {
     ) -> (usize, Result<(), CapturesError>)
         requires own { IsCacheOf regex.now cache.old }
         requires groups { AreGroupsOf regex.now.options regex.now.texts self.old }
-        ensures own { IsCacheOf regex.now cache.new }
-        ensures groups { AreGroupsOf regex.now.options regex.now.texts self.new }
-        ensures all { IfOk result.1
-            (λ _. AreAllPieces (config_by regex.now) regex.now.texts haystack.now None result.0 rows.old rows.new) }
-        ensures first { IfErr result.1
-            (λ _. AreFirstPieces (config_by regex.now) regex.now.texts haystack.now None result.0 rows.old rows.new) }
-        ensures refused { IfErr result.1 (IsCapturesError regex.now.options haystack.now) }
+        ensures { ListsPieces regex.now cache.new self.new haystack.now None rows.old rows.new result }
     {
         self.split_limited(alloc, regex, cache, haystack, None, rows)
     }
 
-    /// Splits a haystack at its first matches, as [`split`](Groups::split) does, so that there are at most `limit` pieces. The last of them is
+    /// ListsPieces a haystack at its first matches, as [`split`](Groups::split) does, so that there are at most `limit` pieces. The last of them is
     /// what follows the match before it. A limit of 0 gives no piece, without a search.
     pub fn splitn(
         &mut self,
@@ -143,13 +125,7 @@ impl Groups {
     ) -> (usize, Result<(), CapturesError>)
         requires own { IsCacheOf regex.now cache.old }
         requires groups { AreGroupsOf regex.now.options regex.now.texts self.old }
-        ensures own { IsCacheOf regex.now cache.new }
-        ensures groups { AreGroupsOf regex.now.options regex.now.texts self.new }
-        ensures all { IfOk result.1
-            (λ _. AreAllPieces (config_by regex.now) regex.now.texts haystack.now (Some limit) result.0 rows.old rows.new) }
-        ensures first { IfErr result.1
-            (λ _. AreFirstPieces (config_by regex.now) regex.now.texts haystack.now (Some limit) result.0 rows.old rows.new) }
-        ensures refused { IfErr result.1 (IsCapturesError regex.now.options haystack.now) }
+        ensures { ListsPieces regex.now cache.new self.new haystack.now (Some limit) rows.old rows.new result }
     {
         self.split_limited(alloc, regex, cache, haystack, Some(limit), rows)
     }

@@ -3,9 +3,6 @@ use Rattle.meta_regex.specs.Regexes.{HasFoundSpan, HasPattern, config_by}
 use Rattle.captures.proofs.FoundLemmas.{captured}
 use Rattle.captures.proofs.groups.Groups.captures_at.Goals as goal
 
-pub returns-in-Err-clause-refused : goal.returns-in-Err-clause-refused
-returns-in-Err-clause-refused c = c.of_search.ensures c.args.regex.now.options c.args.haystack.now c.in-Err.ensures.refused
-
 pub returns-in-Ok-write_slots-clause-found : goal.returns-in-Ok-write_slots-clause-found
 returns-in-Ok-write_slots-clause-found c =
     captured (config_by c.args.regex.now) c.args.regex.now.texts c.args.haystack.now c.args.from (length c.args.slots.now)
@@ -18,4 +15,4 @@ returns-in-Ok-write_slots-clause-found c =
 
 pub returns-in-Err-write_slots-clause-refused : goal.returns-in-Err-write_slots-clause-refused
 returns-in-Err-write_slots-clause-refused c =
-    c.in-Err-write_slots.ensures.refused c.args.regex.now.options c.args.regex.now.texts c.find.ensures.groups c.args.haystack.now
+    c.in-Err-write_slots.ensures.keeps.refused c.args.regex.now.options c.args.regex.now.texts c.find.ensures.groups c.args.haystack.now

@@ -4,9 +4,6 @@ use Rattle.captures.specs.Replacing.{ComesNext, IsReplaced}
 use Rattle.captures.proofs.ReplaceLemmas.{continues_on, continues_with, ends_at_the_limit, ends_without_match, up_to_goes_on}
 use Rattle.captures.proofs.groups.Groups.replace_matches.Goals as goal
 
-pub returns-in-Err-append_between-clause-refused : goal.returns-in-Err-append_between-clause-refused
-returns-in-Err-append_between-clause-refused c = c.in-Err-append_between.ensures.refused c.args.regex.now.options c.args.haystack.now
-
 pub returns-in_default-clause-replaced : goal.returns-in_default-clause-replaced
 returns-in_default-clause-replaced c =
     let h = c.args.haystack.now in
@@ -14,15 +11,12 @@ returns-in_default-clause-replaced c =
     c.args.output.now.items c.most_matches-most.ensures c.loop-count.output.items c.append_between.new.output.items c.loop-count.count
     c.loop-count.last c.loop-count.invariant.4
     (c.in-Ok-append_between.ensures.appended ∙ ap (λ i. c.loop-count.output.items ++ slice_range h i (length h)) c.unwrap_or.ensures)
-    (subst (ComesNext (config_by c.args.regex.now) c.args.regex.now.texts h c.loop-count.last) c.in_default.is c.in-Ok.ensures.next)
+    (subst (ComesNext (config_by c.args.regex.now) c.args.regex.now.texts h c.loop-count.last) c.in_default.is c.in-Ok.ensures.found)
 
 pub returns-in_default-clause-longer : goal.returns-in_default-clause-longer
 returns-in_default-clause-longer c =
     continues_on c.args.output.now.items c.loop-count.output.items c.append_between.new.output.items _ c.loop-count.invariant.2
     c.in-Ok-append_between.ensures.appended
-
-pub returns-in-Err-append_between-2-clause-refused : goal.returns-in-Err-append_between-2-clause-refused
-returns-in-Err-append_between-2-clause-refused c = c.in-Err-append_between-2.ensures.refused c.args.regex.now.options c.args.haystack.now
 
 pub returns-in-Err-append_replaced-clause-longer : goal.returns-in-Err-append_replaced-clause-longer
 returns-in-Err-append_replaced-clause-longer c =
@@ -33,7 +27,7 @@ returns-in-Err-append_replaced-clause-longer c =
 
 pub returns-in-Err-append_replaced-clause-refused : goal.returns-in-Err-append_replaced-clause-refused
 returns-in-Err-append_replaced-clause-refused c =
-    c.in-Err-append_replaced.ensures.refused c.args.regex.now.options c.args.regex.now.texts c.in-Ok.ensures.groups c.args.haystack.now
+    c.in-Err-append_replaced.ensures.keeps.refused c.args.regex.now.options c.args.regex.now.texts c.in-Ok.ensures.groups c.args.haystack.now
 
 pub loop-count-preserved : goal.loop-count-preserved
 loop-count-preserved c =
@@ -43,7 +37,7 @@ loop-count-preserved c =
     let out = c.loop-count.output.items in
     let mid = c.append_between-in-loop-count.new.output.items in
     let found = c.in-Some.found in (
-      c.in-Ok-append_replaced.ensures.own c.args.regex.now.options texts c.in-Ok.ensures.groups,
+      c.in-Ok-append_replaced.ensures.keeps.own c.args.regex.now.options texts c.in-Ok.ensures.groups,
       c.in-Ok.ensures.own,
       continues_with c.args.output.now.items mid c.append_replaced.new.output.items
           (continues_on c.args.output.now.items out mid _ c.loop-count.invariant.2 c.in-Ok-append_between-2.ensures.appended)
@@ -51,7 +45,7 @@ loop-count-preserved c =
       c.append_replaced.auto.slots ∙ c.loop-count.invariant.3,
       up_to_goes_on config texts h c.args.replacement.now c.most_matches-most.result c.args.output.now.items out mid
           c.append_replaced.new.output.items c.loop-count.count c.loop-count.last found c.loop-count.invariant.4 c.loop-count-test.true
-          (subst (ComesNext config texts h c.loop-count.last) c.in-Some.is c.in-Ok.ensures.next)
+          (subst (ComesNext config texts h c.loop-count.last) c.in-Some.is c.in-Ok.ensures.found)
           (subst (HasPattern config texts h) c.in-Some.is c.in-Ok.ensures.pattern)
           (c.in-Ok-append_between-2.ensures.appended ∙ ap (λ i. out ++ slice_range h i found.start) c.unwrap_or-in-loop-count.ensures)
           (c.in-Ok-append_replaced.ensures.appended c.args.regex.now.options texts c.in-Ok.ensures.groups),
@@ -74,6 +68,3 @@ pub returns-in-Ok-append_between-3-clause-longer : goal.returns-in-Ok-append_bet
 returns-in-Ok-append_between-3-clause-longer c =
     continues_on c.args.output.now.items c.loop-count.output.items c.append_between-2.new.output.items _ c.loop-count.invariant.2
     c.in-Ok-append_between-3.ensures.appended
-
-pub returns-in-Err-append_between-3-clause-refused : goal.returns-in-Err-append_between-3-clause-refused
-returns-in-Err-append_between-3-clause-refused c = c.in-Err-append_between-3.ensures.refused c.args.regex.now.options c.args.haystack.now
