@@ -58,7 +58,7 @@ pub record WritesSlots (old new : Groups) (h : List ℕ) (f : FoundMatch) (befor
 -- ---- several matches
 
 -- All matches are counted, and are in the rows and slots as far as these have room. After an error, this holds of the first matches.
-pub record ListsAll (r : RegexValue) (c : Cache) (g : Groups) (h : List ℕ) (old new : List FoundMatch) (before after : List ℕ) (width : ℕ)
+pub record ListsCaptured (r : RegexValue) (c : Cache) (g : Groups) (h : List ℕ) (old new : List FoundMatch) (before after : List ℕ) (width : ℕ)
     (result : ℕ × Result ⊤ CapturesError) : Type 0 where
   pub own : IsCacheOf r c
   pub groups : AreGroupsOf r.options r.texts g

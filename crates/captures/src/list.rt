@@ -39,7 +39,7 @@ fn ends_at(found: Option<FoundMatch>, offset: usize) -> bool
 
 impl Groups {
     ghost use Rattle.captures.specs.Groups.{AreGroupsOf};
-    ghost use Rattle.captures.specs.Promises.{FindsMatch, KeepsGroups, ListsAll};
+    ghost use Rattle.captures.specs.Promises.{FindsMatch, KeepsGroups, ListsCaptured};
 
     /// The match that follows one that ended at this offset. An empty match right there is skipped. There is none after the haystack.
     pub(crate) fn find_next(
@@ -120,7 +120,7 @@ impl Groups {
         requires own { IsCacheOf regex.now cache.old }
         requires groups { AreGroupsOf regex.now.options regex.now.texts self.old }
         requires valid { (config_by regex.now).utf8 ≡ true → IsValidText haystack.now }
-        ensures { ListsAll regex.now cache.new self.new haystack.now rows.old rows.new slots.old slots.new width result }
+        ensures { ListsCaptured regex.now cache.new self.new haystack.now rows.old rows.new slots.old slots.new width result }
     {
         let mut next = match self.find(alloc, regex, cache, haystack, 0) {
             Ok(next) => next,
@@ -167,7 +167,7 @@ impl Groups {
     ) -> (usize, Result<(), CapturesError>)
         requires own { IsCacheOf regex.now cache.old }
         requires groups { AreGroupsOf regex.now.options regex.now.texts self.old }
-        ensures { ListsAll regex.now cache.new self.new haystack.now rows.old rows.new slots.old slots.new width result }
+        ensures { ListsCaptured regex.now cache.new self.new haystack.now rows.old rows.new slots.old slots.new width result }
     {
         match regex.check(haystack) {
             Ok(()) => self.list(alloc, regex, cache, haystack, rows, slots, width),
