@@ -1,4 +1,5 @@
-"""Finds what of a crate a function's proof may depend on, by the names in its texts, so that wrong edits of definitions may share a check with others.
+"""Finds what of a crate depends on a definition, by the names in its texts, so that wrong edits of definitions may share a check with
+others.
 
 Functions and types are followed by their names alone: a name stands for each one in the crate that has it. A function leads to what its
 text and its answers name, and to the type that it is a method of. Definitions and lemmas are followed by their imports. So what is found
@@ -6,7 +7,6 @@ may be too much. A lemma that fails leaves the others of its file as they are.""
 
 import os
 import re
-from functools import cache
 
 FUNCTION = re.compile(r"^( *)(?:pub(?:\([a-z]+\))? )?(?:const )?(?:extern \"C\" )?fn (\w+)", re.M)
 IMPL = re.compile(r"^(?:unsafe )?(?:impl|trait|pub trait)\b[^\n{]*", re.M)
@@ -58,6 +58,7 @@ class Reach:
         sources = "\n".join(text for path, text in self.texts.items() if path.startswith("src/"))
         self.types = {"Self", *re.findall(r"\b(?:struct|enum|trait|type|union) (\w+)", sources), *re.findall(r" as (\w+)", sources)}
         self.declared = {path: set().union(*map(declared, blocks(text))) for path, text in self.texts.items() if path.endswith(".antt")}
+        self.imported = {path: self.imports(path) for path in self.texts}
         for path, text in self.texts.items():
             if path.startswith("src/"):
                 self.add_source(path, text)
@@ -101,7 +102,7 @@ class Reach:
 
     def add(self, nodes, path, text):
         """Notes what these names lead to: what their text names."""
-        known, words = imported(self, path), set(WORD.findall(self.without_others(text)))
+        known, words = self.imported[path], set(WORD.findall(self.without_others(text)))
         found = {("", it) for it in words} if path.startswith("src/") else {(path, it) for it in words & self.declared[path]}
         found.update(*(known[it] for it in {*words, ""} if it in known))
         for file, name in re.findall(r"crate::(proofs::(?:\w+::)*[A-Z]\w*)(?:::([\w-]+))?", text):
@@ -138,8 +139,3 @@ class Reach:
                 return None
             found |= {(path, it) for it in of[0]}
         return found or None
-
-
-@cache
-def imported(reach, path):
-    return reach.imports(path)
