@@ -86,6 +86,11 @@ class Reach:
             names += [name for it in IMPL.findall(lines) for name in WORD.findall(it) if name in self.types]
             self.add([("", name) for name in names], path, lines)
 
+    def file_of(self, words):
+        """Returns the file of definitions or lemmas that these words name, or something in it, or ""."""
+        paths = (f"{'/'.join(words[:n])}.antt" for n in range(len(words), 0, -1))
+        return next((it for it in paths if it in self.texts), "")
+
     def imports(self, path):
         """Returns what the names mean that a file imports from its own crate."""
         found = {}
@@ -93,7 +98,7 @@ class Reach:
             words = module.split(".")
             if crate != self.crate:
                 continue
-            file = next((f"{'/'.join(words[:n])}.antt" for n in range(len(words), 0, -1) if f"{'/'.join(words[:n])}.antt" in self.texts), "")
+            file = self.file_of(words)
             for it in names.split(",") if names else [name]:
                 meant, _, local = it.strip().partition(" as ")
                 of_source = {("", word.lstrip("+")) for word in [*words[1:], meant]}
@@ -105,9 +110,9 @@ class Reach:
         known, words = self.imported[path], set(WORD.findall(self.without_others(text)))
         found = {("", it) for it in words} if path.startswith("src/") else {(path, it) for it in words & self.declared[path]}
         found.update(*(known[it] for it in {*words, ""} if it in known))
-        for file, name in re.findall(r"crate::(proofs::(?:\w+::)*[A-Z]\w*)(?:::([\w-]+))?", text):
-            file = f"{file.replace('::', '/')}.antt"
-            found.add((file, name if name in self.declared.get(file, ()) else ""))
+        for words in (it.split("::") for it in re.findall(r"crate::(proofs(?:::[\w-]+)+)", text)):
+            file = self.file_of(words)
+            found.add((file, words[-1] if words[-1] in self.declared.get(file, ()) else ""))
         for node in nodes:
             self.edges.setdefault(node, set()).update(found)
 
