@@ -11,11 +11,11 @@ use Rattle.regex_hir.specs.Re.{Re}
 use Rattle.regex_hir.specs.Find.{Match, find, find_all}
 use Rattle.pattern_search.specs.Searches.{span_of_match}
 use Rattle.pattern_search.specs.Texts.{AreReadAs}
-use Rattle.grep_core.specs.Blocks.{IsOver, SearchesBy, Writes, WritesLast, WritesPart, counts_lines, finds_by, reported_bytes}
+use Rattle.grep_core.specs.Blocks.{IsOver, PassesLine, SearchesBy, Writes, WritesLast, WritesPart, counts_lines, finds_by, reported_bytes}
 use Rattle.grep_core.specs.ContextPrinting.{Item, item, print_as, print_item, still}
 use Rattle.line_search.specs.Fallbacks.{found_at, next_after, spans_following}
 use Rattle.line_search.specs.Lines.{SplitLine, TextLine, ended, numbered, searched, split_lines, unended}
-use Rattle.grep_core.specs.LongLines.{PrintsByMatch, PrintsEach, Sends, WritesLines, printed_one, printed_one_as}
+use Rattle.grep_core.specs.LongLines.{PrintsByMatch, PrintsEach, PrintsPlain, Sends, WritesLine, WritesLines, printed_one, printed_one_as}
 use Rattle.line_search.specs.Bounded.{line_pattern}
 use Rattle.line_search.specs.Meant.{line_config}
 use Rattle.line_search.specs.Patterns.{has_match_in, spans_in}
@@ -27,6 +27,7 @@ use Rattle.grep_core.specs.Reporting.{added, added_matches, count_in_all, may_se
 use Rattle.line_search.specs.Searchers.{IsMatchReported, Sought, found_by}
 use Rattle.grep_core.specs.declared.output_options.OutputOptions.{OutputOptions}
 use Rattle.grep_core.specs.declared.output_options.Print.TheVariants.{Matches}
+use Rattle.line_search.specs.declared.fault.Fault.{Fault}
 use Rattle.line_search.specs.declared.patterns.PatternOptions.{PatternOptions}
 use Rattle.grep_core.specs.declared.progress.Progress.{Progress}
 use Rattle.grep_core.specs.declared.progress.Task.{Task}
@@ -46,6 +47,10 @@ on_ok (Err e) f x = tt
 pub if_err : {E X Y : Type 0} (r : Result (Unit {0}) E) → (X → Y) → IfErr r (λ _. X) → IfErr r (λ _. Y)
 if_err (Ok u) f x = tt
 if_err (Err e) f x = f x
+
+pub on_err : {E X : Type 0} (r : Result (Unit {0}) E) → X → IfErr r (λ _. X)
+on_err (Ok u) x = tt
+on_err (Err e) x = x
 
 -- ---- what was sent of some bytes
 pub sends_none : (w : Option (List ℕ)) (out : List ℕ) → Sends w w out out
@@ -211,14 +216,13 @@ spans_as_they_are : (w : OutputOptions) (f : LineMatcher) (line : TextLine) → 
 spans_as_they_are w f line unreplaced = ap (λ o. (shown_by o f line.content).spans) (sym unreplaced)
 
 module _ (w : OutputOptions) (f : LineMatcher) (name : List ℕ) (with_name : Bool) where
-  pub begun : (t u : Reporter) (line : TextLine) (out new : List ℕ) (lines : List TextLine) → PrintsByMatch w → w.invert ≡ false →
-      w.replacement ≡ None → may_select w.most t.count ≡ true → true ≡ f.has_match line.content → u.count ≡ t.count + 1 → u.matches ≡ t.matches →
+  pub begun : (t u : Reporter) (line : TextLine) (out new : List ℕ) (lines : List TextLine) → PrintsByMatch w → PrintsPlain w → may_select w.most t.count ≡ true → true ≡ f.has_match line.content → u.count ≡ t.count + 1 → u.matches ≡ t.matches →
       ((it : Item) (flags : List Bool) (items : List Item) →
       out ++ still w (shown with_name name) t.course (true ∷ flags) (it ∷ items)
       ≡ (new ++ print_item w (shown with_name name) Selected it) ++ still w (shown with_name name) u.course flags items) →
       out ++ still_reported w f name with_name t (line ∷ lines)
       ≡ new ++ (print_item w (shown with_name name) Selected (item line (f.spans line.content)) ++ still_reported w f name with_name u lines)
-  begun t u line out new lines by_match plain unreplaced may seen counted same goes_on =
+  begun t u line out new lines by_match as_is may seen counted same goes_on =
       let it : Item = item line (f.spans line.content) in
       let after : List ℕ = new ++ print_item w (shown with_name name) Selected it in
       let number : number_of w.print u ≡ number_of w.print t + added w.print true (length (f.spans line.content)) =
@@ -227,8 +231,8 @@ module _ (w : OutputOptions) (f : LineMatcher) (name : List ℕ) (with_name : Bo
       let told = lines_told {E = Unit {0}} (Ok tt) w.print w t.course u.course true it out after (shown with_name name) (prints_some w by_match)
       (goes_on it) in
       line_told w.print w f name with_name t.course u.course t.count u.count (number_of w.print t) (number_of w.print u) true true line
-      line (f.spans line.content) out after lines (selects_one w t.count plain may) seen (line_as_it_is w f line unreplaced)
-      (spans_as_they_are w f line unreplaced) counted
+      line (f.spans line.content) out after lines (selects_one w t.count as_is.plain may) seen (line_as_it_is w f line as_is.unreplaced)
+      (spans_as_they_are w f line as_is.unreplaced) counted
       (λ flags items. told name with_name (number_of w.print t) (number_of w.print u) flags items refl number)
       ∙ append_assoc new (print_item w (shown with_name name) Selected it) (still_reported w f name with_name u lines)
 
@@ -394,20 +398,30 @@ some_by t s by line by_match known =
     (spans_some (line_pattern s.how by.patterns) (searched s.how.crlf line) (sym (known by.patterns (read_by t s by))))
 
 -- a line after which the next one is counted
-pub passed_lines : (t : Task) (f : LineMatcher) (p q : Progress) (telling : Reporter) (len : ℕ) (lines : List SplitLine) →
-    q.number ≡ p.number + 1 → q.place ≡ p.place + len + 1 → q.telling ≡ telling →
-    still_reported t.what.now f t.name.now t.with_name telling (numbered (p.number + 1) (p.place + len + 1) lines)
-    ≡ reported_bytes t f q lines
-passed_lines t f p q telling len lines number place tells =
-    ap₂ (λ n at. still_reported t.what.now f t.name.now t.with_name telling (numbered n at lines)) (sym number) (sym place)
-    ∙ ap (λ u. still_reported t.what.now f t.name.now t.with_name u (numbered q.number q.place lines)) (sym tells)
+pub passed_lines : (t : Task) (f : LineMatcher) (p q : Progress) (u : Reporter) (len : ℕ) (lines : List SplitLine) →
+    PassesLine (record p { telling = u }) q len →
+    still_reported t.what.now f t.name.now t.with_name u (numbered (p.number + 1) (p.place + len + 1) lines) ≡ reported_bytes t f q lines
+passed_lines t f p q u len lines passed =
+    ap₂ (λ n at. still_reported t.what.now f t.name.now t.with_name u (numbered n at lines)) (sym passed.number) (sym passed.place)
+    ∙ ap (λ it. still_reported t.what.now f t.name.now t.with_name it (numbered q.number q.place lines)) (sym passed.telling)
 
-pub passed_counted : (t : Task) (f : LineMatcher) (p q : Progress) (telling : Reporter) (len : ℕ) (lines : List SplitLine) →
-    q.number ≡ p.number + 1 → q.place ≡ p.place + len + 1 → q.telling ≡ telling →
-    counts_lines t f q lines ≡ count_in_all t.what.now f telling (numbered (p.number + 1) (p.place + len + 1) lines)
-passed_counted t f p q telling len lines number place tells =
-    ap (λ u. count_in_all t.what.now f u (numbered q.number q.place lines)) tells
-    ∙ ap₂ (λ n at. count_in_all t.what.now f telling (numbered n at lines)) number place
+pub passed_counted : (t : Task) (f : LineMatcher) (p q : Progress) (u : Reporter) (len : ℕ) (lines : List SplitLine) →
+    PassesLine (record p { telling = u }) q len →
+    counts_lines t f q lines ≡ count_in_all t.what.now f u (numbered (p.number + 1) (p.place + len + 1) lines)
+passed_counted t f p q u len lines passed =
+    ap (λ it. count_in_all t.what.now f it (numbered q.number q.place lines)) passed.telling
+    ∙ ap₂ (λ n at. count_in_all t.what.now f u (numbered n at lines)) passed.number passed.place
+
+-- ---- what a call that writes a line promises
+module _ {t : Task} {s now : Sought} {p q : Progress} {line : SplitLine} {w v : Option (List ℕ)} where
+  pub line_failed : {e : Fault} → now ≡ s → ((by : SearchesBy t s) (lines : List SplitLine) →
+      (n : ℕ) × Appends w v (take n (reported_bytes t (finds_by t by) p (line ∷ lines)))) → WritesLine t s now p q line w v (Err e)
+  line_failed same part = record { same = same; waits = tt; writes = tt; fault = part }
+
+  -- after a call that kept what is searched for
+  pub line_moved : {was : Sought} {r : Result (Unit {0}) Fault} → was ≡ s → WritesLine t was now p q line w v r →
+      WritesLine t s now p q line w v r
+  line_moved {was} {r} same a = subst (λ (x : Sought). WritesLine t x now p q line w v r) same a
 
 -- ---- the first line of what was read, or the last one
 module _ (t : Task) (f : LineMatcher) where

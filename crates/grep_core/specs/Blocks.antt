@@ -1,11 +1,13 @@
 -- What is still to be printed for an input after some of its lines, and how a task advances over some bytes.
-use Rattle.std.specs.Prelude.{◌≡◌, ℕ, List, [], ◌++◌, Option, Some, None, Vec, take}
+use Rattle.std.specs.Prelude.{◌≡◌, ◌+◌, ◌≤◌, ℕ, List, [], ◌++◌, Option, Some, None, Result, OnOk, IfOk, IfErr, Vec, drop, length, take}
 use Rattle.std.specs.declared.alloc.Global.{Global}
 use Rattle.std.specs.Io.KnownBytes.{Appends}
 use Rattle.grep_core.specs.declared.progress.Progress.{Progress}
 use Rattle.grep_core.specs.declared.progress.Task.{Task}
+use Rattle.grep_core.specs.ContextPrinting.{Waits}
 use Rattle.line_search.specs.Lines.{SplitLine, TextLine, numbered, split_lines}
 use Rattle.line_search.specs.LineMatchers.{LineMatcher, ShownLine}
+use Rattle.line_search.specs.declared.fault.Fault.{Fault}
 use Rattle.grep_core.specs.Report.{as_it_is, counted_as}
 use Rattle.line_search.specs.Searchers.{Sought, SearchesFor, found_by}
 use Rattle.grep_core.specs.Reporting.{needs_spans, with_needed_spans, still_reported, count_in_all}
@@ -26,6 +28,17 @@ SearchesBy t s = SearchesFor s (needs_spans t.what.now)
 
 abbrev pub finds_by : (t : Task) {s : Sought} → SearchesBy t s → LineMatcher
 finds_by t by = with_needed_spans t.what.now (found_by by)
+
+-- What each call that processes lines keeps. The finder still searches for `s`, and on success the buffered lines are as they may be.
+pub record KeepsOn {A : Type 0} (t : Task) (s now : Sought) (new : Progress) (result : Result A Fault) : Type 0 where
+  pub same : now ≡ s
+  pub waits : OnOk result (Waits t.what.now new.telling.course)
+
+-- A line of this many bytes is counted.
+pub record PassesLine (old new : Progress) (len : ℕ) : Type 0 where
+  pub number : new.number ≡ old.number + 1
+  pub place : new.place ≡ old.place + len + 1
+  pub telling : new.telling ≡ old.telling
 
 -- The lines of `before` that aren't in `after` were processed, by a search for `s`. Whatever bytes follow, the output so far with what is
 -- still to be printed after it is unchanged, and so is the number of selected lines.
@@ -57,6 +70,18 @@ pub record ReadsAndWrites (t : Task) (f : LineMatcher) (old new : Progress) (bef
 -- A prefix of the output for an input was written.
 abbrev pub WritesPart : Task → LineMatcher → Progress → List ℕ → Option (List ℕ) → Option (List ℕ) → Type 0
 WritesPart t f p text empty full = (n : ℕ) × Appends empty full (take n (reported_bytes t f p (split_lines text)))
+
+-- What a call that writes the output for the first lines of `read` promises. The finder still searches for `s`. `Ok` has the offset after
+-- these lines: their output was written, whatever bytes follow, and the buffered lines are as they may be. On an error, a prefix of the output
+-- was written.
+pub record WritesFirstLines (t : Task) (s now : Sought) (old new : Progress) (read : List ℕ) (empty full : Option (List ℕ))
+    (result : Result ℕ Fault) : Type 0 where
+  pub same : now ≡ s
+  pub waits : OnOk result (Waits t.what.now new.telling.course)
+  pub within : IfOk result (λ done. done ≤ length read)
+  pub writes : IfOk result (λ done. (by : SearchesBy t s) (more : List ℕ) →
+      Writes t (finds_by t by) old new (read ++ more) (drop done read ++ more) empty full)
+  pub fault : IfErr result (λ _. (by : SearchesBy t s) (more : List ℕ) → WritesPart t (finds_by t by) old (read ++ more) empty full)
 
 -- The output for all that was left of an input was written, but for what is printed after all lines. The number of selected lines is right
 -- as it is counted.

@@ -1,7 +1,7 @@
 //! Processes the lines of blocks of an input.
 ghost use Rattle.std.specs.Prelude.{◌≡◌, ◌++◌, ◌∷◌, [], ℕ, ◌+◌, ◌≤◌, ◌==◌, List, None, OnOk, IfOk, drop, length, ◌<◌, ◌≢◌, take, true};
 ghost use Rattle.std.specs.List.{position};
-ghost use Rattle.grep_core.specs.Blocks.{SearchesBy, ReportsUpTo, finds_by, reported_bytes, counts_lines};
+ghost use Rattle.grep_core.specs.Blocks.{KeepsOn, SearchesBy, ReportsUpTo, finds_by, reported_bytes, counts_lines};
 ghost use Rattle.line_search.specs.Candidates.{IsLineStart, IsNextLine};
 ghost use Rattle.grep_core.specs.ContextPrinting.{Waits};
 ghost use Rattle.line_search.specs.Lines.{SplitLine, searched};
@@ -26,8 +26,7 @@ pub(crate) fn report_block(
     block: &[u8],
 ) -> Result<usize, Fault>
     requires { Waits task.what.now progress.old.telling.course }
-    ensures same { finder.new ≡ finder.old }
-    ensures waits { OnOk result (Waits task.entry.what.now progress.new.telling.course) }
+    ensures keeps { KeepsOn task.entry finder.old finder.new progress.new result }
     ensures within { IfOk result (λ done. done ≤ length block.now) }
     ensures all { IfOk result (λ done. position (λ b. b == 10) (drop done block.now) ≡ None) }
     ensures reports { IfOk result (λ done. ReportsUpTo task.entry finder.old progress.old progress.new out.old.items out.new.items
@@ -65,8 +64,7 @@ fn report_reached(
     requires below { at < length block.now }
     requires whole { AreWhole block.now }
     requires next { IsNextLine finder.old.how finder.old.texts block.now at reached }
-    ensures same { finder.new ≡ finder.old }
-    ensures waits { OnOk result (Waits task.entry.what.now progress.new.telling.course) }
+    ensures keeps { KeepsOn task.entry finder.old finder.new progress.new result }
     ensures on { IfOk result (λ next. at < next) }
     ensures within { IfOk result (λ next. next ≤ length block.now) }
     ensures starts { IfOk result (λ next. IsLineStart block.now next) }

@@ -1,16 +1,15 @@
 //! Prints the matches of long lines, or a long line for each of them, one after the other. So the memory doesn't grow with the number of
 //! matches in a line.
-ghost use Rattle.std.specs.Prelude.{◌≡◌, ◌++◌, ◌∷◌, ◌≤◌, [], ℕ, Bool, List, IfErr, IfOk, IsTrue, None, OnOk, false, length, map, nat_lt};
+ghost use Rattle.std.specs.Prelude.{◌≡◌, ◌++◌, ◌∷◌, ◌≤◌, [], ℕ, Bool, List, IfErr, IfOk, IsTrue, OnOk, false, length, map, nat_lt};
 ghost use Rattle.std.specs.Prelude.{option_map, take, true};
 ghost use Rattle.std.specs.List.{flat_map};
 ghost use Rattle.std.specs.Io.KnownBytes.{Appends};
 ghost use Rattle.regex_hir.specs.Re.{Re};
 ghost use Rattle.pattern_search.specs.Texts.{AreReadAs};
-ghost use Rattle.grep_core.specs.Blocks.{SearchesBy, finds_by, reported_bytes};
 ghost use Rattle.grep_core.specs.ContextPrinting.{Waits, item, print_item};
-ghost use Rattle.line_search.specs.Lines.{SplitLine, TextLine, searched};
+ghost use Rattle.line_search.specs.Lines.{TextLine, searched};
 ghost use Rattle.line_search.specs.FoundSpans.{IsNextSpan};
-ghost use Rattle.grep_core.specs.LongLines.{MayWriteMatches, PrintsByMatch, PrintsEach, Sends, WritesLines, printed_one};
+ghost use Rattle.grep_core.specs.LongLines.{MayWriteMatches, PrintsByMatch, PrintsEach, PrintsPlain, Sends, WritesLine, printed_one};
 ghost use Rattle.line_search.specs.Meant.{line_config};
 ghost use Rattle.line_search.specs.Patterns.{spans_in};
 ghost use Rattle.grep_core.specs.Printing.{text_line};
@@ -152,8 +151,7 @@ fn write_matches<W: Write>(
 /// Whether the matches of selected lines are printed alone, and not what replaces them.
 pub(crate) fn prints_matches(what: &OutputOptions<'_>) -> bool
     ensures matches { IsTrue result → what.now.print ≡ Matches }
-    ensures plain { IsTrue result → what.now.invert ≡ false }
-    ensures unreplaced { IsTrue result → what.now.replacement ≡ None }
+    ensures plain { IsTrue result → PrintsPlain what.now }
 {
     match what.print {
         Print::Matches => !what.invert && what.replacement.is_none(),
@@ -164,8 +162,7 @@ pub(crate) fn prints_matches(what: &OutputOptions<'_>) -> bool
 /// Whether selected lines are printed once for each of their matches, however long they are and without replacing these.
 pub(crate) fn prints_each(what: &OutputOptions<'_>) -> bool
     ensures each { IsTrue result → PrintsEach what.now }
-    ensures plain { IsTrue result → what.now.invert ≡ false }
-    ensures unreplaced { IsTrue result → what.now.replacement ≡ None }
+    ensures plain { IsTrue result → PrintsPlain what.now }
 {
     match what.print {
         Print::Lines => {
@@ -181,8 +178,7 @@ pub(crate) fn prints_each(what: &OutputOptions<'_>) -> bool
 /// Whether what is printed for a match of a selected line depends on no other match.
 fn prints_by_match(what: &OutputOptions<'_>) -> bool
     ensures by_match { IsTrue result → PrintsByMatch what.now }
-    ensures plain { IsTrue result → what.now.invert ≡ false }
-    ensures unreplaced { IsTrue result → what.now.replacement ≡ None }
+    ensures plain { IsTrue result → PrintsPlain what.now }
 {
     prints_matches(what) || prints_each(what)
 }
@@ -208,8 +204,7 @@ fn begin_matches(
 ) -> Result<(), Fault>
     requires waits { Waits what.now telling.old.course }
     requires by_match { PrintsByMatch what.now }
-    requires plain { what.now.invert ≡ false }
-    requires unreplaced { what.now.replacement ≡ None }
+    requires plain { PrintsPlain what.now }
     requires may { may_select what.now.most telling.old.count ≡ true }
     ensures goes_on { OnOk result ((f : LineMatcher) (line : TextLine) → true ≡ f.has_match line.content → (lines : List TextLine) →
         out.old.items ++ still_reported what.now f name.now with_name telling.old (line ∷ lines)
@@ -303,14 +298,8 @@ pub(crate) fn write_listed<W: Write>(
     requires waits { Waits task.what.now progress.old.telling.course }
     requires known { is_known ≡ true → IsMatchReported finder.old.how finder.old.texts
         (searched finder.old.how.crlf (record { bytes = bytes.now; is_ended = is_ended })) true }
-    ensures same { finder.new ≡ finder.old }
-    ensures waits { OnOk result (Waits task.entry.what.now progress.new.telling.course) }
-    ensures writes { OnOk result ((by : SearchesBy task.entry finder.old) (lines : List SplitLine) →
-        WritesLines task.entry (finds_by task.entry by) progress.old progress.new (record { bytes = bytes.now; is_ended = is_ended } ∷ lines)
-        lines (W.contents writer.old) (W.contents writer.new)) }
-    ensures fault { IfErr result (λ _. (by : SearchesBy task.entry finder.old) (lines : List SplitLine) → (n : ℕ) ×
-        Appends (W.contents writer.old) (W.contents writer.new) (take n (reported_bytes task.entry (finds_by task.entry by) progress.old
-        (record { bytes = bytes.now; is_ended = is_ended } ∷ lines)))) }
+    ensures { WritesLine task.entry finder.old finder.new progress.old progress.new (record { bytes = bytes.now; is_ended = is_ended })
+        (W.contents writer.old) (W.contents writer.new) result }
 {
     let mut out = Vec::new(alloc);
     match report_one(
@@ -319,10 +308,7 @@ pub(crate) fn write_listed<W: Write>(
         Ok(()) => {}
         Err(e) => return Err(e),
     }
-    match write_out(writer, &out) {
-        Ok(()) => Ok(()),
-        Err(e) => Err(e),
-    }
+    write_out(writer, &out)
 }
 
 /// Writes the output for a line that is selected and whose matches are printed one after the other. The line is given without its line feed.
@@ -339,14 +325,8 @@ fn write_found<W: Write>(
     requires may { MayWriteMatches finder.old task.what.now progress.old.telling.count }
     requires known { IsMatchReported finder.old.how finder.old.texts
         (searched finder.old.how.crlf (record { bytes = bytes.now; is_ended = is_ended })) true }
-    ensures same { finder.new ≡ finder.old }
-    ensures waits { OnOk result (Waits task.entry.what.now progress.new.telling.course) }
-    ensures writes { OnOk result ((by : SearchesBy task.entry finder.old) (lines : List SplitLine) →
-        WritesLines task.entry (finds_by task.entry by) progress.old progress.new (record { bytes = bytes.now; is_ended = is_ended } ∷ lines)
-        lines (W.contents writer.old) (W.contents writer.new)) }
-    ensures fault { IfErr result (λ _. (by : SearchesBy task.entry finder.old) (lines : List SplitLine) → (n : ℕ) ×
-        Appends (W.contents writer.old) (W.contents writer.new) (take n (reported_bytes task.entry (finds_by task.entry by) progress.old
-        (record { bytes = bytes.now; is_ended = is_ended } ∷ lines)))) }
+    ensures { WritesLine task.entry finder.old finder.new progress.old progress.new (record { bytes = bytes.now; is_ended = is_ended })
+        (W.contents writer.old) (W.contents writer.new) result }
 {
     let line = Line {
         number: progress.number,
@@ -367,10 +347,7 @@ fn write_found<W: Write>(
         Ok(()) => {}
         Err(e) => return Err(e),
     }
-    match pass(progress, bytes.len()) {
-        Ok(()) => Ok(()),
-        Err(e) => Err(e),
-    }
+    pass(progress, bytes.len())
 }
 
 /// Writes the output for a line of which the matches may be printed. The line is given without its line feed.
@@ -384,14 +361,8 @@ pub(crate) fn write_line<W: Write>(
     is_ended: bool,
 ) -> Result<(), Fault>
     requires waits { Waits task.what.now progress.old.telling.course }
-    ensures same { finder.new ≡ finder.old }
-    ensures waits { OnOk result (Waits task.entry.what.now progress.new.telling.course) }
-    ensures writes { OnOk result ((by : SearchesBy task.entry finder.old) (lines : List SplitLine) →
-        WritesLines task.entry (finds_by task.entry by) progress.old progress.new (record { bytes = bytes.now; is_ended = is_ended } ∷ lines)
-        lines (W.contents writer.old) (W.contents writer.new)) }
-    ensures fault { IfErr result (λ _. (by : SearchesBy task.entry finder.old) (lines : List SplitLine) → (n : ℕ) ×
-        Appends (W.contents writer.old) (W.contents writer.new) (take n (reported_bytes task.entry (finds_by task.entry by) progress.old
-        (record { bytes = bytes.now; is_ended = is_ended } ∷ lines)))) }
+    ensures { WritesLine task.entry finder.old finder.new progress.old progress.new (record { bytes = bytes.now; is_ended = is_ended })
+        (W.contents writer.old) (W.contents writer.new) result }
 {
     let has = match finder.has_match(alloc, searched(finder.crlf(), bytes, is_ended)) {
         Ok(has) => has,

@@ -1,6 +1,6 @@
 //! What is searched, and how far its lines are processed.
 ghost use Rattle.std.specs.Prelude.{◌≡◌, ℕ, ◌+◌, List, IfOk, OnOk};
-ghost use Rattle.grep_core.specs.Blocks.{reported_bytes, counts_lines};
+ghost use Rattle.grep_core.specs.Blocks.{PassesLine, reported_bytes, counts_lines};
 ghost use Rattle.grep_core.specs.ContextPrinting.{Waits};
 ghost use Rattle.line_search.specs.Lines.{text_lines, split_lines};
 ghost use Rattle.line_search.specs.LineMatchers.{LineMatcher};
@@ -63,9 +63,7 @@ pub(crate) fn sum(a: u64, b: u64) -> Result<u64, Fault>
 
 /// Advances past a line of this many bytes.
 pub(crate) fn pass(progress: &mut Progress, len: usize) -> Result<(), Fault>
-    ensures number { OnOk result (progress.new.number ≡ progress.old.number + 1) }
-    ensures place { OnOk result (progress.new.place ≡ progress.old.place + len + 1) }
-    ensures telling { OnOk result (progress.new.telling ≡ progress.old.telling) }
+    ensures { OnOk result (PassesLine progress.old progress.new len) }
 {
     progress.number = sum(progress.number, 1)?;
     progress.place = sum(sum(progress.place, len as u64)?, 1)?;

@@ -1,9 +1,9 @@
 //! Reads an input in blocks, and processes its lines one after the other.
-ghost use Rattle.std.specs.Prelude.{◌≡◌, ◌==◌, None, ◌++◌, ◌<◌, ◌≤◌, ℕ, [], List, Some, Ok, OnOk, IfOk, IfErr, IfSome, IsTrue, drop, take};
+ghost use Rattle.std.specs.Prelude.{◌≡◌, ◌==◌, None, ◌++◌, ◌<◌, ◌≤◌, ℕ, [], List, Some, Ok, OnOk, IfOk, IfErr, IfSome, IsTrue, take};
 ghost use Rattle.std.specs.Prelude.{true, false, length};
 ghost use Rattle.std.specs.Io.KnownBytes.{Appends, IsAtEnd, Keeps};
 ghost use Rattle.std.specs.List.{position};
-ghost use Rattle.grep_core.specs.Blocks.{SearchesBy, finds_by, reported_bytes, counts_lines, Writes, ReadsAndWrites, WritesLast, WritesPart, IsOver};
+ghost use Rattle.grep_core.specs.Blocks.{KeepsOn, SearchesBy, finds_by, reported_bytes, counts_lines, ReadsAndWrites, WritesFirstLines, WritesLast, WritesPart, IsOver};
 ghost use Rattle.grep_core.specs.ContextPrinting.{Waits};
 ghost use Rattle.line_search.specs.Lines.{split_lines};
 ghost use Rattle.line_search.specs.LineMatchers.{LineMatcher};
@@ -115,8 +115,7 @@ fn report_blocks<R: Read, W: Write>(
 ) -> Result<bool, Fault>
     requires waits { Waits task.what.now progress.old.telling.course }
     requires open { position (λ b. b == 10) read.old ≡ None }
-    ensures same { finder.new ≡ finder.old }
-    ensures waits { OnOk result (Waits task.entry.what.now progress.new.telling.course) }
+    ensures keeps { KeepsOn task.entry finder.old finder.new progress.new result }
     ensures open { IfOk result (λ _. position (λ b. b == 10) read.new ≡ None) }
     ensures reads { OnOk result ((by : SearchesBy task.entry finder.old) (text : List ℕ) → R.remaining reader.old ≡ Some text →
         ReadsAndWrites task.entry (finds_by task.entry by) progress.old progress.new read.old read.new text (R.remaining reader.new)
@@ -177,15 +176,8 @@ fn write_beginning<W: Write>(
     progress: &mut Progress,
 ) -> Result<usize, Fault>
     requires { Waits task.what.now progress.old.telling.course }
-    ensures same { finder.new ≡ finder.old }
-    ensures waits { OnOk result (Waits task.entry.what.now progress.new.telling.course) }
-    ensures within { IfOk result (λ done. done ≤ length read.now) }
-    ensures writes { IfOk result (λ done. (by : SearchesBy task.entry finder.old) (more : List ℕ) →
-        Writes task.entry (finds_by task.entry by) progress.old progress.new (read.now ++ more) (drop done read.now ++ more)
-        (W.contents writer.old) (W.contents writer.new)) }
-    ensures fault { IfErr result (λ _. (by : SearchesBy task.entry finder.old) (more : List ℕ) →
-        WritesPart task.entry (finds_by task.entry by) progress.old (read.now ++ more) (W.contents writer.old)
-        (W.contents writer.new)) }
+    ensures { WritesFirstLines task.entry finder.old finder.new progress.old progress.new read.now (W.contents writer.old)
+        (W.contents writer.new) result }
 {
     let mut done = 0usize;
     for _pieces in 0..read.len() {
@@ -212,15 +204,8 @@ fn write_first<W: Write>(
     progress: &mut Progress,
 ) -> Result<usize, Fault>
     requires { Waits task.what.now progress.old.telling.course }
-    ensures same { finder.new ≡ finder.old }
-    ensures waits { OnOk result (Waits task.entry.what.now progress.new.telling.course) }
-    ensures within { IfOk result (λ done. done ≤ length read.now) }
-    ensures writes { IfOk result (λ done. (by : SearchesBy task.entry finder.old) (more : List ℕ) →
-        Writes task.entry (finds_by task.entry by) progress.old progress.new (read.now ++ more) (drop done read.now ++ more)
-        (W.contents writer.old) (W.contents writer.new)) }
-    ensures fault { IfErr result (λ _. (by : SearchesBy task.entry finder.old) (more : List ℕ) →
-        WritesPart task.entry (finds_by task.entry by) progress.old (read.now ++ more) (W.contents writer.old)
-        (W.contents writer.new)) }
+    ensures { WritesFirstLines task.entry finder.old finder.new progress.old progress.new read.now (W.contents writer.old)
+        (W.contents writer.new) result }
 {
     let piece = piece_len(task, read);
     if piece > 0 {
@@ -261,15 +246,8 @@ fn write_piece<W: Write>(
 ) -> Result<usize, Fault>
     requires waits { Waits task.what.now progress.old.telling.course }
     requires within { len ≤ length read.now }
-    ensures same { finder.new ≡ finder.old }
-    ensures waits { OnOk result (Waits task.entry.what.now progress.new.telling.course) }
-    ensures within { IfOk result (λ done. done ≤ length read.now) }
-    ensures writes { IfOk result (λ done. (by : SearchesBy task.entry finder.old) (more : List ℕ) →
-        Writes task.entry (finds_by task.entry by) progress.old progress.new (read.now ++ more) (drop done read.now ++ more)
-        (W.contents writer.old) (W.contents writer.new)) }
-    ensures fault { IfErr result (λ _. (by : SearchesBy task.entry finder.old) (more : List ℕ) →
-        WritesPart task.entry (finds_by task.entry by) progress.old (read.now ++ more) (W.contents writer.old)
-        (W.contents writer.new)) }
+    ensures { WritesFirstLines task.entry finder.old finder.new progress.old progress.new read.now (W.contents writer.old)
+        (W.contents writer.new) result }
 {
     let mut out = Vec::new(alloc);
     let done = match report_block(alloc, &mut out, finder, task, progress, &read[..len]) {
@@ -352,8 +330,7 @@ fn write_open_line<W: Write>(
     requires waits { Waits task.what.now progress.old.telling.course }
     requires open { position (λ b. b == 10) read.now ≡ None }
     requires over { ended ≡ false → IsOver task progress.old }
-    ensures same { finder.new ≡ finder.old }
-    ensures waits { OnOk result (Waits task.entry.what.now progress.new.telling.course) }
+    ensures keeps { KeepsOn task.entry finder.old finder.new progress.new result }
     ensures writes { OnOk result ((by : SearchesBy task.entry finder.old) (more : List ℕ) → (ended ≡ true → more ≡ []) →
         WritesLast task.entry (finds_by task.entry by) progress.old progress.new (read.now ++ more) (W.contents writer.old)
         (W.contents writer.new)) }
@@ -367,15 +344,9 @@ fn write_open_line<W: Write>(
         return Ok(());
     }
     if begins_long(task, read) {
-        return match write_line(alloc, writer, finder, task, progress, read, false) {
-            Ok(()) => Ok(()),
-            Err(e) => Err(e),
-        };
+        return write_line(alloc, writer, finder, task, progress, read, false);
     }
-    match write_listed(alloc, writer, finder, task, progress, read, false, false) {
-        Ok(()) => Ok(()),
-        Err(e) => Err(e),
-    }
+    write_listed(alloc, writer, finder, task, progress, read, false, false)
 }
 
 /// Writes what is printed after all lines.
@@ -403,10 +374,7 @@ pub fn write_end<W: Write>(
         Ok(()) => {}
         Err(_) => return Err(Fault::NoMemory),
     }
-    match write_out(writer, &out) {
-        Ok(()) => Ok(()),
-        Err(e) => Err(e),
-    }
+    write_out(writer, &out)
 }
 
 /// Writes all bytes. On an error, the bytes that were written are a prefix of them.

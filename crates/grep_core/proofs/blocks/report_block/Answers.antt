@@ -27,8 +27,8 @@ loop-done-preserved c =
     record {
       in_whole = next_in;
       starts = c.in-Ok-report_reached.ensures.starts;
-      same = c.in-Ok-report_reached.ensures.same ∙ (c.in-Ok.ensures.same ∙ c.loop-done.invariant.same);
-      waits = c.in-Ok-report_reached.ensures.waits;
+      same = c.in-Ok-report_reached.ensures.keeps.same ∙ (c.in-Ok.ensures.same ∙ c.loop-done.invariant.same);
+      waits = c.in-Ok-report_reached.ensures.keeps.waits;
       reports = record {
         goes_on = λ by more.
             block_told (reported_bytes c.args.task (finds_by c.args.task by)) c.loop-done.progress c.report_reached.new.progress block more

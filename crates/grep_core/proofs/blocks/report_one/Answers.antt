@@ -18,7 +18,7 @@ returns-in-Ok-pass-clause-goes_on c by lines =
     (ap (map span_pair) c.deref.ensures.value ∙ shown.1) next
     ∙ ap (λ text. c.report_line.new.out.items ++ text)
     (passed_lines c.args.task (finds_by c.args.task by) c.args.progress.now c.pass.new.progress c.report_line.new.telling
-    (length c.args.bytes.now) lines c.in-Ok-pass.ensures.number c.in-Ok-pass.ensures.place c.in-Ok-pass.ensures.telling)
+    (length c.args.bytes.now) lines c.in-Ok-pass.ensures)
 
 pub returns-in-Ok-pass-clause-counts : goal.returns-in-Ok-pass-clause-counts
 returns-in-Ok-pass-clause-counts c by lines =
@@ -26,5 +26,5 @@ returns-in-Ok-pass-clause-counts c by lines =
     let own : TextLine = record { number = c.args.progress.now.number; place = c.args.progress.now.place; content = line } in
     let next = numbered (c.args.progress.now.number + 1) (c.args.progress.now.place + length c.args.bytes.now + 1) lines in
     passed_counted c.args.task (finds_by c.args.task by) c.args.progress.now c.pass.new.progress c.report_line.new.telling
-    (length c.args.bytes.now) lines c.in-Ok-pass.ensures.number c.in-Ok-pass.ensures.place c.in-Ok-pass.ensures.telling
+    (length c.args.bytes.now) lines c.in-Ok-pass.ensures
     ∙ c.in-Ok-report_line.ensures.counts (finds_by c.args.task by) own (c.in-Ok.ensures.has by) next

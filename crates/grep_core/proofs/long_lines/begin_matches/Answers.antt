@@ -13,7 +13,7 @@ returns-in-Ok-count_more-clause-goes_on c f line seen lines =
       matches = c.args.telling.now.matches;
     } in
     begun c.args.what.now f c.args.name.now c.args.with_name c.args.telling.now after line c.args.out.now.items
-    c.select_first.new.out.items lines c.requires.by_match c.requires.plain c.requires.unreplaced c.requires.may seen c.in-Ok-count_more.ensures refl
+    c.select_first.new.out.items lines c.requires.by_match c.requires.plain c.requires.may seen c.in-Ok-count_more.ensures refl
     (λ it flags items. subst (λ (n : Option (List ℕ)). c.args.out.now.items
     ++ still c.args.what.now n c.args.telling.now.course (true ∷ flags) (it ∷ items)
     ≡ (c.select_first.new.out.items ++ print_item c.args.what.now n Selected it)
@@ -26,5 +26,5 @@ returns-in-Ok-count_more-clause-counts c f line seen lines =
       count = c.in-Ok-count_more.count;
       matches = c.args.telling.now.matches;
     } in
-    begun_counted c.args.what.now f c.args.name.now c.args.with_name c.args.telling.now after line lines c.requires.plain c.requires.may seen
+    begun_counted c.args.what.now f c.args.name.now c.args.with_name c.args.telling.now after line lines c.requires.plain.plain c.requires.may seen
     c.in-Ok-count_more.ensures

@@ -25,7 +25,7 @@ returns-in-Err-write_matches-clause-fault g c f res read seen spans some lines =
     (g.W.Write.contents c.args.writer.now) (g.W.Write.contents c.write_matches.new.writer) c.new-out.ensures.items
     (c.in-Ok.ensures.goes_on f (text_line c.args.line) seen lines)
     (all_printed c.args.task.what.now (shown c.args.task.with_name c.args.task.name.now) (text_line c.args.line)
-    (spans_in c.args.finder.now.how res c.args.bytes.now) (f.spans (text_line c.args.line).content) c.requires.may.by_match c.requires.may.plain some spans
+    (spans_in c.args.finder.now.how res c.args.bytes.now) (f.spans (text_line c.args.line).content) c.requires.may.by_match c.requires.may.plain.plain some spans
     ∙ ap (λ n. flat_map (printed_one c.args.task.what.now n (text_line c.args.line))
     (spans_in c.args.finder.now.how res c.args.bytes.now)) (sym c.shown-name.ensures))
     (c.in-Err-write_matches.ensures.fault res read)
@@ -44,7 +44,7 @@ returns-in-Ok-write_out-clause-writes g c f res read seen spans some lines =
     (g.W.Write.contents c.args.writer.now) (g.W.Write.contents c.write_matches.new.writer) (g.W.Write.contents c.write_out.new.writer)
     c.new-out.ensures.items (c.in-Ok.ensures.goes_on f (text_line c.args.line) seen lines)
     (all_printed c.args.task.what.now (shown c.args.task.with_name c.args.task.name.now) (text_line c.args.line)
-    (spans_in c.args.finder.now.how res c.args.bytes.now) (f.spans (text_line c.args.line).content) c.requires.may.by_match c.requires.may.plain some spans
+    (spans_in c.args.finder.now.how res c.args.bytes.now) (f.spans (text_line c.args.line).content) c.requires.may.by_match c.requires.may.plain.plain some spans
     ∙ ap (λ n. flat_map (printed_one c.args.task.what.now n (text_line c.args.line))
     (spans_in c.args.finder.now.how res c.args.bytes.now)) (sym c.shown-name.ensures))
     (c.in-Ok-write_matches.ensures.sends res read) c.deref.ensures.value c.in-Ok-write_out.ensures.ok
@@ -63,7 +63,7 @@ returns-clause-fault g c f res read seen spans some lines =
     (g.W.Write.contents c.args.writer.now) (g.W.Write.contents c.write_matches.new.writer) (g.W.Write.contents c.write_out.new.writer)
     c.new-out.ensures.items (c.in-Ok.ensures.goes_on f (text_line c.args.line) seen lines)
     (all_printed c.args.task.what.now (shown c.args.task.with_name c.args.task.name.now) (text_line c.args.line)
-    (spans_in c.args.finder.now.how res c.args.bytes.now) (f.spans (text_line c.args.line).content) c.requires.may.by_match c.requires.may.plain some spans
+    (spans_in c.args.finder.now.how res c.args.bytes.now) (f.spans (text_line c.args.line).content) c.requires.may.by_match c.requires.may.plain.plain some spans
     ∙ ap (λ n. flat_map (printed_one c.args.task.what.now n (text_line c.args.line))
     (spans_in c.args.finder.now.how res c.args.bytes.now)) (sym c.shown-name.ensures))
     (c.in-Ok-write_matches.ensures.sends res read) c.deref.ensures.value c.in-Err-write_out.ensures.part

@@ -18,7 +18,7 @@ returns-in-Ok-pass-clause-goes_on c f lack lines =
     c.in-Ok.ensures.goes_on f own (sym lack.no_match) shown.0 shown.1 next
     ∙ ap (λ text. c.report_line.new.out.items ++ text)
     (passed_lines c.args.task f c.args.progress.now c.pass.new.progress c.report_line.new.telling
-    (length c.args.bytes.now) lines c.in-Ok-pass.ensures.number c.in-Ok-pass.ensures.place c.in-Ok-pass.ensures.telling)
+    (length c.args.bytes.now) lines c.in-Ok-pass.ensures)
 
 pub returns-in-Ok-pass-clause-counts : goal.returns-in-Ok-pass-clause-counts
 returns-in-Ok-pass-clause-counts c f lack lines =
@@ -29,5 +29,5 @@ returns-in-Ok-pass-clause-counts c f lack lines =
     } in
     let next = numbered (c.args.progress.now.number + 1) (c.args.progress.now.place + length c.args.bytes.now + 1) lines in
     passed_counted c.args.task f c.args.progress.now c.pass.new.progress c.report_line.new.telling
-    (length c.args.bytes.now) lines c.in-Ok-pass.ensures.number c.in-Ok-pass.ensures.place c.in-Ok-pass.ensures.telling
+    (length c.args.bytes.now) lines c.in-Ok-pass.ensures
     ∙ c.in-Ok.ensures.counts f own (sym lack.no_match) next

@@ -167,13 +167,13 @@ returns-then-is_task_over-clause-reads g c by text is =
 
 pub loop-blocks-preserved : goal.loop-blocks-preserved
 loop-blocks-preserved g c = record {
-  same = c.in-Ok-report_block.ensures.same ∙ (c.in-Ok-write_beginning.ensures.same ∙ c.loop-blocks.invariant.same);
+  same = c.in-Ok-report_block.ensures.keeps.same ∙ (c.in-Ok-write_beginning.ensures.same ∙ c.loop-blocks.invariant.same);
   unfed =
       let bytes : List ℕ = c.bytes-bytes.result.now in
       let first : ℕ = c.in-Ok-write_beginning.first in
       unfed_rest c.read_some.new.self bytes (take (length bytes - first) (drop first bytes)) c.forget.new.self first
       c.in-Ok-report_block.done c.bytes-bytes.ensures (take_rest bytes first) c.forget.ensures c.in-Ok-report_block.ensures.all;
-  waits = c.in-Ok-report_block.ensures.waits;
+  waits = c.in-Ok-report_block.ensures.keeps.waits;
   reads = λ by text is.
       let a = c.loop-blocks.invariant.reads by text is in
       let bytes : List ℕ = c.bytes-bytes.result.now in

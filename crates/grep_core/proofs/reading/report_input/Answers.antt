@@ -36,7 +36,7 @@ returns-in-Ok-finish-clause-reported g c by =
     (g.R.Read.remaining c.report_blocks.new.reader) (g.W.Write.contents c.args.writer.now) (g.W.Write.contents c.report_blocks.new.writer)
     (g.W.Write.contents c.finish.new.writer)
     c.over-read.ensures c.bytes.ensures (c.new-progress.ensures.starts t c.first_of.ensures (with_needed_spans c.args.what.now (found_by by))) a
-    (c.in-Ok-finish.ensures.written (moved_by (c.in-Ok.ensures.same ∙ c.take_room-room.ensures) by) a.rest
+    (c.in-Ok-finish.ensures.written (moved_by (c.in-Ok.ensures.keeps.same ∙ c.take_room-room.ensures) by) a.rest
     (λ ended. at_end (g.R.Read.remaining c.report_blocks.new.reader) a.rest a.is_left (c.in-Ok.ensures.end ended))))
 
 pub returns-in-Ok-finish-clause-selected : goal.returns-in-Ok-finish-clause-selected
@@ -50,7 +50,7 @@ returns-in-Ok-finish-clause-selected g c by =
     (g.W.Write.contents c.report_blocks.new.writer) c.count_of.result _
     c.over-read.ensures c.bytes.ensures (c.new-progress.ensures.counts t (with_needed_spans c.args.what.now (found_by by))) a
     (c.count_of.ensures t (with_needed_spans c.args.what.now (found_by by)))
-    (c.in-Ok-finish.ensures.counts (moved_by (c.in-Ok.ensures.same ∙ c.take_room-room.ensures) by) a.rest
+    (c.in-Ok-finish.ensures.counts (moved_by (c.in-Ok.ensures.keeps.same ∙ c.take_room-room.ensures) by) a.rest
     (λ ended. at_end (g.R.Read.remaining c.report_blocks.new.reader) a.rest a.is_left (c.in-Ok.ensures.end ended))))
 
 pub returns-clause-fault : goal.returns-clause-fault
@@ -63,5 +63,5 @@ returns-clause-fault g c by =
     (g.R.Read.remaining c.report_blocks.new.reader) (g.W.Write.contents c.args.writer.now) (g.W.Write.contents c.report_blocks.new.writer)
     (g.W.Write.contents c.finish.new.writer)
     c.over-read.ensures c.bytes.ensures (c.new-progress.ensures.starts t c.first_of.ensures (with_needed_spans c.args.what.now (found_by by))) a
-    (c.in-Err-finish.ensures.fault (moved_by (c.in-Ok.ensures.same ∙ c.take_room-room.ensures) by) a.rest
+    (c.in-Err-finish.ensures.fault (moved_by (c.in-Ok.ensures.keeps.same ∙ c.take_room-room.ensures) by) a.rest
     (λ ended. at_end (g.R.Read.remaining c.report_blocks.new.reader) a.rest a.is_left (c.in-Ok.ensures.end ended))))
