@@ -62,15 +62,20 @@ pub fn search(
     let texts = strs_of(rt.alloc(), patterns.parsed.as_slice())?;
     let asked = with_case(asked, texts.as_slice());
     let sought = sought_of(rt, &asked, texts.as_slice());
-    match Finder::new(rt.alloc(), &sought, lists_matches(&asked)) {
+    let searched = match Finder::new(rt.alloc(), &sought, lists_matches(&asked)) {
         Ok(mut finder) => {
             let mut outcome = Outcome::new();
             let given = patterns.given.as_slice();
             let searched = search_files(rt, &mut finder, &asked, given, &mut outcome, files);
             finder.close();
-            searched?;
-            Ok(outcome)
+            match searched {
+                Ok(()) => Ok(outcome),
+                Err(error) => Err(error),
+            }
         }
         Err(error) => refuse_patterns(rt, &asked, patterns, error),
-    }
+    };
+    drop(sought);
+    drop(texts);
+    searched
 }

@@ -237,7 +237,9 @@ impl<'t> Finder<'t> {
     }
 
     /// Frees what the finder owns.
-    pub fn close(self) {}
+    pub fn close(self) {
+        drop(self);
+    }
 
     /// How often the caches of the automata were cleared. The greatest number stands for any number above it.
     pub fn clear_count(&self) -> usize {

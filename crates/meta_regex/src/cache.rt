@@ -15,6 +15,7 @@ use growing_regex::{GrowingRegex, shared};
 use literal_search::Effort;
 use search_types::MatchKind;
 use std::alloc::{AllocError, Global};
+use std::mem;
 
 /// The caches of a regex's automata, and what its searches made later. It is usable only with a regex of the same patterns and options as the
 /// one for which it was made.
@@ -155,7 +156,8 @@ impl Regex {
         ensures { IsCacheOf self.now cache.new }
     {
         if cache.wordless.is_none() {
-            cache.wordless = self.wordless_automata(alloc, MatchKind::LeftmostFirst);
+            let made = self.wordless_automata(alloc, MatchKind::LeftmostFirst);
+            drop(mem::replace(&mut cache.wordless, made));
         }
     }
 
@@ -165,7 +167,8 @@ impl Regex {
         ensures { IsCacheOf self.now cache.new }
     {
         if cache.wordless_overlapping.is_none() {
-            cache.wordless_overlapping = self.wordless_automata(alloc, MatchKind::All);
+            let made = self.wordless_automata(alloc, MatchKind::All);
+            drop(mem::replace(&mut cache.wordless_overlapping, made));
         }
     }
 
