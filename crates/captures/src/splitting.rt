@@ -68,7 +68,7 @@ impl Groups {
         (most + 1, Ok(()))
     }
 
-    /// ListsPieces a haystack, if it is UTF-8 or need not be.
+    /// Splits a haystack, if it is UTF-8 or need not be.
     fn split_limited(
         &mut self,
         alloc: Global,
@@ -92,7 +92,7 @@ impl Groups {
         self.split_matches(alloc, regex, cache, haystack, limit, rows)
     }
 
-    /// ListsPieces a haystack at its matches, and returns how many pieces there are between them, however many there is room for. The last piece is
+    /// Splits a haystack at its matches, and returns how many pieces there are between them, however many there is room for. The last piece is
     /// what follows the last match. A haystack without a match is one piece, also if it is empty.
     ///
     /// `rows` get the spans of the first pieces, as many as they have room for: the start and the end, as offsets in bytes. Rows after the
@@ -112,7 +112,7 @@ impl Groups {
         self.split_limited(alloc, regex, cache, haystack, None, rows)
     }
 
-    /// ListsPieces a haystack at its first matches, as [`split`](Groups::split) does, so that there are at most `limit` pieces. The last of them is
+    /// Splits a haystack at its first matches, as [`split`](Groups::split) does, so that there are at most `limit` pieces. The last of them is
     /// what follows the match before it. A limit of 0 gives no piece, without a search.
     pub fn splitn(
         &mut self,

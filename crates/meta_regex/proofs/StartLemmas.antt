@@ -1,7 +1,7 @@
 -- The toolchain's matcher finds nothing before the next offset at which a match may start by its literals.
 use Rattle.std.proofs.Common.{◌≡◌, ◌+◌, ◌-◌, ℕ, zero, suc, ◌<◌, ◌≤◌, false, List, [], ◌∷◌, length, All, Option, Some, None, option_map, slice_get}
 use Rattle.std.proofs.Common.{sym, ap, ◌∙◌, subst, arith, inl, inr}
-use Rattle.std.proofs.Common.{Bool, Result, Ok, Err}
+use Rattle.std.proofs.Common.{Bool}
 use Rattle.std.specs.Prelude.{IfSome}
 use Rattle.std.proofs.lemmas.Bool.{cases_lt}
 use Rattle.std.proofs.lemmas.Option.{none-some, same_Some}
@@ -25,10 +25,9 @@ use Rattle.meta_regex.specs.declared.anchored.Sought.{Sought}
 use Rattle.meta_regex.specs.declared.anchored.Sought.TheVariants.{Found, Missing, From}
 use Rattle.meta_regex.specs.declared.anchored.Step.{Step}
 use Rattle.meta_regex.specs.declared.anchored.Step.TheVariants.{Done, Next}
-use Rattle.meta_regex.specs.declared.errors.SearchError.{SearchError}
 use Rattle.meta_regex.specs.declared.found_match.FoundMatch.{FoundMatch}
-use Rattle.meta_regex.specs.Regexes.{FindsFrom, HasFoundStart, HasFoundSpan}
-use Rattle.meta_regex.specs.Starts.{HasSoughtSpan, HasStepSpan, IsSought, IsStep, NoneStartsAt, SeeksFrom, StepsFrom}
+use Rattle.meta_regex.specs.Regexes.{HasFoundStart, HasFoundSpan}
+use Rattle.meta_regex.specs.Starts.{HasSoughtSpan, HasStepSpan, IsSought, IsStep, NoneStartsAt, StepsFrom}
 use Rattle.meta_regex.specs.Wordless.{MayBeginAt}
 use Rattle.meta_regex.proofs.WordlessLemmas.{one_of_patterns}
 
@@ -141,15 +140,6 @@ pub span_later : (config : Config) (texts : List (List ℕ)) (h : List ℕ) (a b
     MayBeginAt config texts h a (Some b) → HasFoundSpan config texts h b o → HasFoundSpan config texts h a o
 span_later config texts h a b o first found res read = ap (λ (o : Option Match). option_map span_of_match o) (first.1 res read) ∙ found res read
 
-pub finds_later : (config : Config) (texts : List (List ℕ)) (loops : Bool) (h : List ℕ) (a b : ℕ) (r : Result (Option FoundMatch) SearchError) →
-    MayBeginAt config texts h a (Some b) → FindsFrom config texts loops h b r → FindsFrom config texts loops h a r
-finds_later config texts loops h a b (Ok o) first it = record {
-  found = found_later config texts h a b o first it.found;
-  preferred = λ on. span_later config texts h a b o first (it.preferred on);
-  refused = tt;
-}
-finds_later config texts loops h a b (Err e) first it = record { found = tt; preferred = λ on. tt; refused = it.refused }
-
 pub none_at_end : (config : Config) (texts : List (List ℕ)) (h : List ℕ) (at : ℕ) → at ≡ length h → NoneStartsAt config texts h at →
     MayBeginAt config texts h at None
 none_at_end config texts h at end none res read =
@@ -178,13 +168,6 @@ step_span_later : (config : Config) (texts : List (List ℕ)) (h : List ℕ) (a 
     HasStepSpan config texts h b o → HasStepSpan config texts h a o
 step_span_later config texts h a b (Done o) first it = sought_span_later config texts h a b o first it
 step_span_later config texts h a b (Next s) first it = tt
-
-pub seeks_later : (config : Config) (texts : List (List ℕ)) (loops : Bool) (h : List ℕ) (a b : ℕ) (o : Sought) →
-    MayBeginAt config texts h a (Some b) → SeeksFrom config texts loops h b o → SeeksFrom config texts loops h a o
-seeks_later config texts loops h a b o first it = record {
-  sought = sought_later config texts h a b o first it.sought;
-  preferred = λ on. sought_span_later config texts h a b o first (it.preferred on);
-}
 
 pub steps_later : (config : Config) (texts : List (List ℕ)) (loops : Bool) (h : List ℕ) (a b : ℕ) (o : Step) → a ≤ b →
     MayBeginAt config texts h a (Some b) → StepsFrom config texts loops h b o → StepsFrom config texts loops h a o
