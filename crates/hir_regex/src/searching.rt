@@ -8,6 +8,7 @@ ghost use Rattle.hir_core.specs.Tree.{Tree};
 ghost use Rattle.lazy_dfa.specs.Blanks.{FitsLedger};
 ghost use Rattle.regex_pair.specs.PairAnswers.{AnswersPair};
 ghost use Rattle.regex_pair.specs.Pairs.{AreCachesOf, PairGrowsOrClears};
+ghost use Rattle.regex_pair.specs.StepSearches.{SearchesUncounted};
 ghost use Rattle.hir_regex.specs.declared.settings.Settings.{Settings};
 ghost use Rattle.hir_regex.specs.BrokenText.{first_broken};
 ghost use Rattle.hir_regex.specs.Built.{IsBuilt, FindsFirst};
@@ -84,10 +85,7 @@ fn search_counted<L: Ledger, M: Ledger>(
     requires own { AreCachesOf re.now cache.old }
     requires first { FitsLedger first.name first.parts L.name L.parts }
     requires second { FitsLedger second.name second.parts M.name M.parts }
-    ensures own { AreCachesOf re.now cache.new }
-    ensures answer { AnswersPair re.now cache.new input.now result }
-    ensures done { input.now.end < input.now.start → (result ≡ Ok None) × (cache.new ≡ cache.old) }
-    ensures kept { PairGrowsOrClears re.now cache.old cache.new }
+    ensures { SearchesUncounted re.now input.now cache.old cache.new result }
 {
     let mut work = Work::<L, M>::new(first, second);
     re.try_search(cache, input, &mut work)

@@ -1,6 +1,6 @@
 -- What contracts see of a cache, and when a cache belongs to an automaton.
 use Rattle.std.specs.Prelude.{◌≡◌, ◌≢◌, ◌<◌, ◌≤◌, ◌+◌, ◌-◌, ◌*◌, ℕ, Bool, true, false, List, [], ◌∷◌, ◌++◌, length, Option, Some, None}
-use Rattle.std.specs.Prelude.{slice_index_or, take, replicate, min, not, nat_le, ◌&&◌, is_none}
+use Rattle.std.specs.Prelude.{slice_index_or, take, replicate, min, not, nat_le, ◌&&◌, is_none, Result, OnOk, OnErr}
 use Rattle.std.specs.List.{position_from}
 use Rattle.std.specs.Str.{bytes_eq}
 use Rattle.std.specs.HashMap.{HashMap, get_by}
@@ -221,3 +221,9 @@ pub record IsCacheOf (d : Dfa) (v : CacheValue) : Type 0 where
 -- a cache as it is made for an automaton
 abbrev pub made_for : Dfa → CacheValue
 made_for d = empty_cache d.measures.stride (fresh_usage d.measures) d.measures.starts d.measures.states d.classes
+
+-- What a call leaves that resets a cache to one for an automaton. If memory runs out, it is as it was.
+pub record ResetsTo {A E : Type 0} (d : Dfa) (old new : CacheValue) (result : Result A E) : Type 0 where
+  pub value : OnOk result (new ≡ made_for d)
+  pub own : OnOk result (IsCacheOf d new)
+  pub err : OnErr result (new ≡ old)

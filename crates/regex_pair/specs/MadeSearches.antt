@@ -1,5 +1,5 @@
 -- What the functions that make the half searches of a pair, one after the other, promise.
-use Rattle.std.specs.Prelude.{◌≡◌, ◌⊎◌, ℕ, ◌+◌, ◌*◌, ◌<◌, ◌≤◌, Bool, true, Option, None, Result, IfErr, OnOk}
+use Rattle.std.specs.Prelude.{◌≡◌, ◌⊎◌, ℕ, ◌+◌, ◌*◌, ◌<◌, ◌≤◌, Bool, true, false, Option, None, Result, Ok, IfErr, IfOk, OnOk}
 use Rattle.search_types.specs.declared.match_error.MatchErrorKind.{MatchErrorKind}
 use Rattle.search_types.specs.declared.match_error.MatchErrorKind.TheVariants.{NoMemory, NotAPair}
 use Rattle.search_types.specs.Found.{Found, HalfFound}
@@ -16,8 +16,9 @@ use Rattle.lazy_dfa.specs.Steps.{most_inserts}
 use Rattle.regex_pair.specs.Joined.{back_from, joined}
 use Rattle.regex_pair.specs.Matching.{AnswersMatch, has_match, match_search}
 use Rattle.regex_pair.specs.PairAnswers.{AnswersPair, ArePathsLinked, GoesBack, IsBackLinked, back_made}
-use Rattle.regex_pair.specs.Pairs.{Pair, PairCache, PairGrowsOrClears, IsPairMoved}
+use Rattle.regex_pair.specs.Pairs.{AreCachesOf, Pair, PairCache, PairGrowsOrClears, IsPairMoved}
 use Rattle.regex_pair.specs.PairProgress.{ReportsMatch, ReportsPair, is_some_half, with_half}
+use Rattle.regex_pair.specs.Reach.{HasPairReach}
 
 -- the search back from an end
 pub record MakesBack (p : Pair) (q : Search) (e : HalfFound) (old new : CacheValue) (m1 m2 n1 n2 : ℕ)
@@ -65,6 +66,15 @@ pub record MakesPair (p : Pair) (q : Search) (old new : PairCache) (m1 m2 n1 n2 
   pub determinized : m2 ≤ m1 + (half_made (reader p.forward) q + back_made p q)
   pub inserted : n2 ≤ n1 + (half_made (reader p.forward) q * most_inserts p.forward + back_made p q * most_inserts p.reverse)
 
+-- What such a search promises its callers. The caches stay those of the two automata. For a done span none is made, and `Still` says that none
+-- is counted. A match, or none, comes with an offset up to which was read.
+pub record SearchesPair (p : Pair) (q : Search) (old new : PairCache) (m1 m2 n1 n2 : ℕ) (Still : Type 0)
+    (result : Result (Option Found) MatchErrorKind) : Type 0 where
+  pub own : AreCachesOf p new
+  pub done : q.end < q.start → (result ≡ Ok None) × (new ≡ old) × Still
+  pub search : MakesPair p q old new m1 m2 n1 n2 result
+  pub reach : IfOk result (λ o. HasPairReach p q o)
+
 -- the search that finds out whether there is a match, and leaves the second cache as it is
 pub record MakesMatch (p : Pair) (q : Search) (old new : PairCache) (m1 m2 n1 n2 : ℕ) (result : Result Bool MatchErrorKind) : Type 0 where
   -- it answers what its half search does, or is out of memory, or that one gave up
@@ -92,3 +102,11 @@ pub record MakesMatch (p : Pair) (q : Search) (old new : PairCache) (m1 m2 n1 n2
   -- it makes few states, and puts few names into sets for them
   pub determinized : m2 ≤ m1 + half_made (reader p.forward) (match_search (reader p.forward) q)
   pub inserted : n2 ≤ n1 + half_made (reader p.forward) (match_search (reader p.forward) q) * most_inserts p.forward
+
+-- What it promises its callers. The caches stay those of the two automata. For a done span no search is made, and `Still` says that none is
+-- counted.
+pub record SearchesMatch (p : Pair) (q : Search) (old new : PairCache) (m1 m2 n1 n2 : ℕ) (Still : Type 0) (result : Result Bool MatchErrorKind)
+    : Type 0 where
+  pub own : AreCachesOf p new
+  pub done : q.end < q.start → (result ≡ Ok false) × (new ≡ old) × Still
+  pub search : MakesMatch p q old new m1 m2 n1 n2 result

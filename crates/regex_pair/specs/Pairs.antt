@@ -1,5 +1,5 @@
 -- Two automata that search as one, and their caches.
-use Rattle.std.specs.Prelude.{◌≡◌, ℕ, ◌+◌, min, true, false, Some, Result, Ok, Err}
+use Rattle.std.specs.Prelude.{◌≡◌, ℕ, ◌+◌, min, true, false, Some, Result, Ok, Err, OnOk, OnErr}
 use Rattle.search_types.specs.declared.match_kind.MatchKind.TheVariants.{All as AllMatches}
 use Rattle.nfa_core.specs.NfaValue.{Nfa}
 use Rattle.lazy_dfa.specs.Building.{built}
@@ -49,6 +49,12 @@ pub record AreCachesOf (p : Pair) (c : PairCache) : Type 0 where
 
 abbrev pub pair_made_for : Pair → PairCache
 pair_made_for p = record { forward = made_for p.forward; reverse = made_for p.reverse }
+
+-- What a call leaves that resets caches to those of two automata. If memory runs out, they are as they were.
+pub record ResetsPair {A E : Type 0} (p : Pair) (old new : PairCache) (result : Result A E) : Type 0 where
+  pub value : OnOk result (new ≡ pair_made_for p)
+  pub own : OnOk result (AreCachesOf p new)
+  pub err : OnErr result (new ≡ old)
 
 -- the bytes that both are taken to need
 abbrev pub pair_usage : PairCache → ℕ

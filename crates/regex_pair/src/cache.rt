@@ -1,8 +1,8 @@
-ghost use Rattle.std.specs.Prelude.{◌≡◌, IfOk, OnOk, OnErr};
+ghost use Rattle.std.specs.Prelude.{◌≡◌, IfOk};
 ghost use Rattle.std.specs.Borrow.{sem};
 ghost use Rattle.lazy_dfa.specs.Caches.{IsCacheOf};
 ghost use Rattle.regex_pair.specs.Borrowing.{BorrowsForward, BorrowsReverse};
-ghost use Rattle.regex_pair.specs.Pairs.{AreCachesOf, Pair, pair_made_for, pair_usage};
+ghost use Rattle.regex_pair.specs.Pairs.{AreCachesOf, Pair, ResetsPair, pair_made_for, pair_usage};
 
 use crate::regex::Regex;
 use lazy_dfa::dfa;
@@ -45,9 +45,7 @@ impl Cache {
     /// Resets both caches to what [`new`](Cache::new) makes for this regex, as `Cache::reset`. The call fails if it is out of
     /// memory, and both are then left as they were.
     pub fn reset(&mut self, re: &Regex) -> Result<(), AllocError>
-        ensures value { OnOk result (self.new ≡ pair_made_for re.now) }
-        ensures own { OnOk result (AreCachesOf re.now self.new) }
-        ensures err { OnErr result (self.new ≡ self.old) }
+        ensures { ResetsPair re.now self.old self.new result }
     {
         let made = Cache::new(self.alloc, re)?;
         let old = mem::replace(self, made);
@@ -134,9 +132,7 @@ impl Regex {
     /// Resets the caches to ones for this regex, as `Regex::reset_cache`. The call fails if it is out of memory, and both are
     /// then left as they were.
     pub fn reset_cache(&self, cache: &mut Cache) -> Result<(), AllocError>
-        ensures value { OnOk result (cache.new ≡ pair_made_for self.now) }
-        ensures own { OnOk result (AreCachesOf self.now cache.new) }
-        ensures err { OnErr result (cache.new ≡ cache.old) }
+        ensures { ResetsPair self.now cache.old cache.new result }
     {
         cache.reset(self)?;
         Ok(())

@@ -6,10 +6,8 @@ ghost use Rattle.search_types.specs.Inputs.{IsSpanOf};
 ghost use Rattle.lazy_dfa.specs.Blanks.{FitsLedger};
 ghost use Rattle.regex_pair.specs.Finding.{finding_all, search_at, IsNextAnswer, IsPositioned, KeepsTwice};
 ghost use Rattle.regex_pair.specs.FindSteps.{searches_by, finds_from, caches_of, borrow_name_of, items_left, MayGoOn, FindsNext};
-ghost use Rattle.regex_pair.specs.PairAnswers.{AnswersPair};
-ghost use Rattle.regex_pair.specs.Pairs.{AreCachesOf, PairGrowsOrClears};
-ghost use Rattle.regex_pair.specs.PairProgress.{ReportsPair};
-ghost use Rattle.regex_pair.specs.StepSearches.{SearchesNext};
+ghost use Rattle.regex_pair.specs.Pairs.{AreCachesOf};
+ghost use Rattle.regex_pair.specs.StepSearches.{SearchesNext, SearchesUncounted};
 
 use crate::regex::{Cache, Regex};
 use lazy_dfa::Work;
@@ -29,11 +27,7 @@ fn search_counted<L: Ledger, M: Ledger>(
     requires own { AreCachesOf re.now cache.old }
     requires first { FitsLedger first.name first.parts L.name L.parts }
     requires second { FitsLedger second.name second.parts M.name M.parts }
-    ensures own { AreCachesOf re.now cache.new }
-    ensures answer { AnswersPair re.now cache.new input.now result }
-    ensures done { input.now.end < input.now.start → (result ≡ Ok None) × (cache.new ≡ cache.old) }
-    ensures kept { PairGrowsOrClears re.now cache.old cache.new }
-    ensures reports { ReportsPair re.now input.now cache.old cache.new result }
+    ensures { SearchesUncounted re.now input.now cache.old cache.new result }
 {
     let mut work = Work::<L, M>::new(first, second);
     re.try_search(cache, input, &mut work)
@@ -47,11 +41,7 @@ fn search_once(
     input: &Input<'_>,
 ) -> Result<Option<Match>, MatchError>
     requires own { AreCachesOf re.now cache.old }
-    ensures own { AreCachesOf re.now cache.new }
-    ensures answer { AnswersPair re.now cache.new input.now result }
-    ensures done { input.now.end < input.now.start → (result ≡ Ok None) × (cache.new ≡ cache.old) }
-    ensures kept { PairGrowsOrClears re.now cache.old cache.new }
-    ensures reports { ReportsPair re.now input.now cache.old cache.new result }
+    ensures { SearchesUncounted re.now input.now cache.old cache.new result }
 {
     let first = Blank::new(1);
     let second = Blank::new(1);
@@ -66,11 +56,7 @@ fn search_once_more(
     input: &Input<'_>,
 ) -> Result<Option<Match>, MatchError>
     requires own { AreCachesOf re.now cache.old }
-    ensures own { AreCachesOf re.now cache.new }
-    ensures answer { AnswersPair re.now cache.new input.now result }
-    ensures done { input.now.end < input.now.start → (result ≡ Ok None) × (cache.new ≡ cache.old) }
-    ensures kept { PairGrowsOrClears re.now cache.old cache.new }
-    ensures reports { ReportsPair re.now input.now cache.old cache.new result }
+    ensures { SearchesUncounted re.now input.now cache.old cache.new result }
 {
     search_once(re, cache, input)
 }

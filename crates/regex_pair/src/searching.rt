@@ -1,14 +1,13 @@
 //! Searches over two automata.
-ghost use Rattle.std.specs.Prelude.{◌≡◌, ◌<◌, ◌≤◌, false, None, Ok, IfOk};
+ghost use Rattle.std.specs.Prelude.{◌≡◌, ◌<◌, ◌≤◌, false, None, Ok};
 ghost use Rattle.search_types.specs.Inputs.{IsWithin};
 ghost use Rattle.lazy_dfa.specs.Caches.{IsCacheOf};
 ghost use Rattle.lazy_dfa.specs.Dfas.{reader};
 ghost use Rattle.lazy_dfa.specs.SearchPromises.{MakesHalf};
 ghost use Rattle.regex_pair.specs.Joined.{back_from, is_start_known};
-ghost use Rattle.regex_pair.specs.MadeSearches.{MakesBack, FindsEnd, MakesMatch, MakesPair};
+ghost use Rattle.regex_pair.specs.MadeSearches.{MakesBack, FindsEnd, MakesMatch, MakesPair, SearchesMatch, SearchesPair};
 ghost use Rattle.regex_pair.specs.Matching.{match_search};
 ghost use Rattle.regex_pair.specs.Pairs.{AreCachesOf, IsPair};
-ghost use Rattle.regex_pair.specs.Reach.{HasPairReach};
 
 use crate::regex::{Cache, Regex};
 use lazy_dfa::{Work, dfa};
@@ -230,10 +229,8 @@ fn match_span<L: Ledger, M: Ledger>(
     work: &mut Work<L, M>,
 ) -> Result<bool, MatchError>
     requires own { AreCachesOf re.now cache.old }
-    ensures own { AreCachesOf re.now cache.new }
-    ensures done { input.now.end < input.now.start → (result ≡ Ok false) × (cache.new ≡ cache.old) × (work.new ≡ work.old) }
-    ensures search { MakesMatch re.now input.now cache.old cache.new work.old.determinized work.new.determinized work.old.inserted
-        work.new.inserted result }
+    ensures { SearchesMatch re.now input.now cache.old cache.new work.old.determinized work.new.determinized work.old.inserted
+        work.new.inserted (work.new ≡ work.old) result }
 {
     if input.is_done() {
         return Ok(false);
@@ -269,11 +266,8 @@ impl Regex {
         work: &mut Work<L, M>,
     ) -> Result<Option<Match>, MatchError>
         requires own { AreCachesOf self.now cache.old }
-        ensures own { AreCachesOf self.now cache.new }
-        ensures done { input.now.end < input.now.start → (result ≡ Ok None) × (cache.new ≡ cache.old) × (work.new ≡ work.old) }
-        ensures search { MakesPair self.now input.now cache.old cache.new work.old.determinized work.new.determinized work.old.inserted
-            work.new.inserted result }
-        ensures reach { IfOk result (λ o. HasPairReach self.now input.now o) }
+        ensures { SearchesPair self.now input.now cache.old cache.new work.old.determinized work.new.determinized work.old.inserted
+            work.new.inserted (work.new ≡ work.old) result }
     {
         search_span(self, cache, input, work)
     }
@@ -286,11 +280,8 @@ impl Regex {
         work: &mut Work<L, M>,
     ) -> Result<Option<Match>, MatchError>
         requires own { AreCachesOf self.now cache.old }
-        ensures own { AreCachesOf self.now cache.new }
-        ensures done { input.now.end < input.now.start → (result ≡ Ok None) × (cache.new ≡ cache.old) × (work.new ≡ work.old) }
-        ensures search { MakesPair self.now input.now cache.old cache.new work.old.determinized work.new.determinized work.old.inserted
-            work.new.inserted result }
-        ensures reach { IfOk result (λ o. HasPairReach self.now input.now o) }
+        ensures { SearchesPair self.now input.now cache.old cache.new work.old.determinized work.new.determinized work.old.inserted
+            work.new.inserted (work.new ≡ work.old) result }
     {
         self.try_search(cache, input, work)
     }
@@ -309,10 +300,8 @@ impl Regex {
         work: &mut Work<L, M>,
     ) -> Result<bool, MatchError>
         requires own { AreCachesOf self.now cache.old }
-        ensures own { AreCachesOf self.now cache.new }
-        ensures done { input.now.end < input.now.start → (result ≡ Ok false) × (cache.new ≡ cache.old) × (work.new ≡ work.old) }
-        ensures search { MakesMatch self.now input.now cache.old cache.new work.old.determinized work.new.determinized work.old.inserted
-            work.new.inserted result }
+        ensures { SearchesMatch self.now input.now cache.old cache.new work.old.determinized work.new.determinized work.old.inserted
+            work.new.inserted (work.new ≡ work.old) result }
     {
         match_span(self, cache, input, work)
     }

@@ -1,7 +1,7 @@
 //! How caches are created and reset.
-ghost use Rattle.std.specs.Prelude.{◌≡◌, IfOk, OnOk, OnErr, length};
+ghost use Rattle.std.specs.Prelude.{◌≡◌, IfOk};
 ghost use Rattle.lazy_dfa.specs.Accounting.{fresh_usage};
-ghost use Rattle.lazy_dfa.specs.Caches.{IsCacheOf, made_for};
+ghost use Rattle.lazy_dfa.specs.Caches.{IsCacheOf, ResetsTo, made_for};
 
 use crate::automaton::dfa::{Cache, DFA};
 use std::alloc::{AllocError, Global};
@@ -29,9 +29,7 @@ impl Cache {
     /// Resets the cache to one for the automaton as [`new`](Cache::new) creates it, as `Cache::reset`. If memory runs
     /// out, the call returns an error and leaves the cache as it was.
     pub fn reset(&mut self, dfa: &DFA) -> Result<(), AllocError>
-        ensures value { OnOk result (self.new ≡ made_for dfa.now) }
-        ensures own { OnOk result (IsCacheOf dfa.now self.new) }
-        ensures err { OnErr result (self.new ≡ self.old) }
+        ensures { ResetsTo dfa.now self.old self.new result }
     {
         let alloc = *self.cells.allocator();
         let cache = Cache::new(alloc, dfa)?;
@@ -53,9 +51,7 @@ impl DFA {
     /// Resets the cache to a new one for the automaton, as `DFA::reset_cache`. If memory runs out, the call returns an
     /// error and leaves the cache as it was.
     pub fn reset_cache(&self, cache: &mut Cache) -> Result<(), AllocError>
-        ensures value { OnOk result (cache.new ≡ made_for self.now) }
-        ensures own { OnOk result (IsCacheOf self.now cache.new) }
-        ensures err { OnErr result (cache.new ≡ cache.old) }
+        ensures { ResetsTo self.now cache.old cache.new result }
     {
         cache.reset(self)?;
         Ok(())
