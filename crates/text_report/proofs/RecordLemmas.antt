@@ -7,6 +7,7 @@ use Rattle.std.proofs.KnownBytes.{Appends-nil, Appends-trans}
 use Rattle.std.specs.Io.KnownBytes.{Appends, Keeps}
 use Rattle.line_search.specs.LineMatchers.{LineMatcher}
 use Rattle.line_search.specs.Lines.{SplitLine, numbered}
+use Rattle.line_search.specs.Searchers.{Sought}
 use Rattle.grep_core.specs.Blocks.{IsOver, counts_lines, reported_bytes}
 use Rattle.grep_core.specs.LongLines.{WritesLines}
 use Rattle.grep_core.specs.Report.{counted_as, report_as, selected}
@@ -15,9 +16,9 @@ use Rattle.grep_core.specs.Selecting.{count_selected}
 use Rattle.grep_core.specs.declared.progress.Progress.{Progress}
 use Rattle.grep_core.specs.declared.progress.Task.{Task}
 use Rattle.grep_core.specs.declared.separator_state.SeparatorState.{SeparatorState}
-use Rattle.grep_core.proofs.ForCallers.{appends_kept, same_report, taken_before}
+use Rattle.grep_core.proofs.ForCallers.{appends_kept, moved_by, same_report, taken_before}
 use Rattle.text_report.specs.LineSpans.{split_at}
-use Rattle.text_report.specs.Records.{WritesBeginning, records_left, records_of, report_records, selected_records}
+use Rattle.text_report.specs.Records.{ReportsRecords, WritesBeginning, records_left, records_of, report_records, selected_records}
 
 -- no line is left at the end of a text
 pub none_left : (t : Task) (text : List ℕ) (at : ℕ) → length text ≤ at → records_left t text at ≡ []
@@ -28,6 +29,16 @@ pub one_reported : (reports : Progress → List SplitLine → List ℕ) (p q : P
     now ≡ line ∷ later → ((lines : List SplitLine) → old ++ reports p (line ∷ lines) ≡ new ++ reports q lines) →
     old ++ reports p now ≡ new ++ reports q later
 one_reported reports p q now later line old new split goes_on = ap (λ it. old ++ reports p it) split ∙ goes_on later
+
+-- records after others
+pub then_records : {t : Task} {s now : Sought} {o p q : Progress} {u w v text : List ℕ} {at next last : ℕ} → now ≡ s →
+    ReportsRecords t s o p u w text at next → ReportsRecords t now p q w v text next last → ReportsRecords t s o q u v text at last
+then_records same a b = record {
+  on = omega (arith, a.on, b.on);
+  within = b.within;
+  goes_on = λ by. a.goes_on by ∙ b.goes_on (moved_by same by);
+  counts = λ by. b.counts (moved_by same by) ∙ a.counts by;
+}
 
 module _ (t : Task) (f : LineMatcher) where
   abbrev bytes : Progress → List SplitLine → List ℕ

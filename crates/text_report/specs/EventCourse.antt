@@ -1,5 +1,5 @@
 -- What is still to be printed for a text as JSON events, after some of its lines.
-use Rattle.std.specs.Prelude.{◌≡◌, ℕ, ◌+◌, ◌<◌, ◌≤◌, Bool, true, false, not, ◌&&◌, List, [], ◌++◌, drop, length, map, take, Option, Some, None, IfSome, option_map, if◌then◌else◌}
+use Rattle.std.specs.Prelude.{◌≡◌, ℕ, ◌+◌, ◌<◌, ◌≤◌, Bool, true, false, not, ◌&&◌, List, [], ◌++◌, drop, length, map, take, Option, Some, None, IfSome, Result, IfOk, OnOk, option_map, if◌then◌else◌}
 use Rattle.std.specs.Borrow.{Bor}
 use Rattle.std.specs.Io.KnownBytes.{Appends}
 use Rattle.std.specs.List.{position_or_len}
@@ -12,6 +12,7 @@ use Rattle.search_types.specs.declared.span.Span.{Span}
 use Rattle.line_search.specs.LineMatchers.{LineMatcher, span_pair}
 use Rattle.line_search.specs.Lines.{SplitLine, TextLine}
 use Rattle.line_search.specs.Searchers.{SearchesFor, Sought, found_by}
+use Rattle.line_search.specs.declared.fault.Fault.{Fault}
 use Rattle.json_events.specs.Events.{as_line, begin_event}
 use Rattle.json_events.specs.declared.elapsed.Elapsed.{Elapsed}
 use Rattle.json_events.specs.declared.stats.Stats.{Stats}
@@ -103,6 +104,13 @@ pub record IsGroup (text : List ℕ) (a : Group) : Type 0 where
   pub inside : a.last.end ≤ length text
   pub forward : a.first.start < whole_end a.last
   pub within : whole_end a.last ≤ length text
+
+-- What calls that take lines promise of what they took. It begins at this offset, its lines are lines of the text, and the next selected line
+-- after it is known.
+pub record TakesLines (t : EventTask) (new : Turn) (at : ℕ) (result : Result Group Fault) : Type 0 where
+  pub starts : IfOk result (λ a. a.first.start ≡ at)
+  pub lies : IfOk result (IsGroup t.text.now)
+  pub known : OnOk result (KnowsNext t.flags.now new)
 
 -- The matches of the text start one after the other.
 abbrev pub AreOrdered : EventTask → Type 0

@@ -1,9 +1,10 @@
 -- What is printed for a text in memory whose lines end with the terminator of the options. With a zero byte they are called records.
-use Rattle.std.specs.Prelude.{ℕ, Bool, List, Option, drop, take}
+use Rattle.std.specs.Prelude.{◌≡◌, ◌++◌, ◌<◌, ◌≤◌, ℕ, Bool, List, Option, drop, length, take}
 use Rattle.std.specs.Io.KnownBytes.{Appends}
 use Rattle.line_search.specs.LineMatchers.{LineMatcher}
 use Rattle.line_search.specs.Lines.{SplitLine, TextLine, numbered}
-use Rattle.grep_core.specs.Blocks.{reported_bytes}
+use Rattle.line_search.specs.Searchers.{Sought}
+use Rattle.grep_core.specs.Blocks.{SearchesBy, counts_lines, finds_by, reported_bytes}
 use Rattle.grep_core.specs.Report.{report_as, selected}
 use Rattle.grep_core.specs.Selecting.{count_selected}
 use Rattle.grep_core.specs.declared.output_options.OutputOptions.{OutputOptions}
@@ -28,6 +29,17 @@ selected_records w f text = count_selected (selected w f (records_of w text))
 -- The records of a text from an offset on.
 abbrev pub records_left : Task → List ℕ → ℕ → List SplitLine
 records_left t text at = split_at t.what.now.terminator (drop at text)
+
+-- The records of a text from `at` to `next`, one of them at least, were processed by a search for `s`. The output so far with what is still to
+-- be printed after it is unchanged, and so is the number of selected records.
+pub record ReportsRecords (t : Task) (s : Sought) (old new : Progress) (out now text : List ℕ) (at next : ℕ) : Type 0 where
+  pub on : at < next
+  pub within : next ≤ length text
+  pub goes_on : (by : SearchesBy t s) →
+      out ++ reported_bytes t (finds_by t by) old (records_left t text at)
+      ≡ now ++ reported_bytes t (finds_by t by) new (records_left t text next)
+  pub counts : (by : SearchesBy t s) →
+      counts_lines t (finds_by t by) new (records_left t text next) ≡ counts_lines t (finds_by t by) old (records_left t text at)
 
 -- A prefix of the output for some lines was written.
 abbrev pub WritesBeginning : Task → LineMatcher → Progress → List SplitLine → Option (List ℕ) → Option (List ℕ) → Type 0

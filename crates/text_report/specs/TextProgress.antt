@@ -1,8 +1,10 @@
 -- What is still to be printed for a text after some of its lines.
-use Rattle.std.specs.Prelude.{◌≡◌, ◌+◌, ℕ, Bool, ◌++◌, List, Option, map, take}
+use Rattle.std.specs.Prelude.{◌≡◌, ◌+◌, ◌≤◌, ℕ, Bool, false, ◌++◌, List, [], Option, Result, IfOk, OnOk, length, map, take}
 use Rattle.std.specs.Io.KnownBytes.{Appends}
 use Rattle.line_search.specs.LineMatchers.{span_pair}
 use Rattle.line_search.specs.Lines.{TextLine}
+use Rattle.line_search.specs.declared.fault.Fault.{Fault}
+use Rattle.grep_core.specs.ContextPrinting.{Waits}
 use Rattle.grep_core.specs.Reporting.{left_of, number_of, reported_lines}
 use Rattle.grep_core.specs.Selecting.{count_selected, limited}
 use Rattle.grep_core.specs.declared.reporter.Reporter.{Reporter}
@@ -19,6 +21,13 @@ matches_of_task t = map span_pair t.found.now
 -- The lines of the text that are left.
 abbrev pub lines_left : TextTask → TextProgress → List TextLine
 lines_left t p = lines_from 10 t.text.now p.at.number p.at.place
+
+-- What calls that process lines leave unless they fail. The lines that are held are as they may be, the next line begins within the text, and
+-- with `false` there is none.
+pub record LeavesLines (t : TextTask) (new : TextProgress) (result : Result Bool Fault) : Type 0 where
+  pub waits : OnOk result (Waits t.what.now new.telling.course)
+  pub within : OnOk result (new.at.place ≤ length t.text.now)
+  pub end : IfOk result (λ more. more ≡ false → lines_left t new ≡ [])
 
 -- For each of these lines, whether it is selected, if so many of the lines before them are.
 abbrev pub flags_left : TextTask → ℕ → List TextLine → List Bool

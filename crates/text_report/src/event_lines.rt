@@ -1,6 +1,6 @@
 //! The lines of a text that are printed as one event.
-ghost use Rattle.std.specs.Prelude.{◌≡◌, ◌<◌, ◌≤◌, ◌+◌, ◌∷◌, ◌&&◌, Bool, IfOk, OnOk, false, length, true};
-ghost use Rattle.text_report.specs.EventCourse.{IsGroup, KnowsNext, group_of, groups_left, joins_lines, roles_left};
+ghost use Rattle.std.specs.Prelude.{◌≡◌, ◌<◌, ◌≤◌, ◌+◌, ◌∷◌, ◌&&◌, Bool, IfOk, false, length, true};
+ghost use Rattle.text_report.specs.EventCourse.{IsGroup, KnowsNext, TakesLines, group_of, groups_left, joins_lines, roles_left};
 ghost use Rattle.text_report.specs.LineSpans.{whole_end};
 ghost use Rattle.text_report.specs.TextEvents.{EventLines, is_selected, put_lines, starts_selected};
 
@@ -60,9 +60,7 @@ fn joins_lines(task: EventTask<'_>) -> bool
 fn take_line(task: EventTask<'_>, turn: &mut Turn, at: usize) -> Result<Group, Fault>
     requires below { at < length task.text.now }
     requires known { KnowsNext task.flags.now turn.old }
-    ensures starts { IfOk result (λ a. a.first.start ≡ at) }
-    ensures lies { IfOk result (λ a. IsGroup task.entry.text.now a) }
-    ensures known { OnOk result (KnowsNext task.entry.flags.now turn.new) }
+    ensures takes { TakesLines task.entry turn.new at result }
     ensures role { IfOk result (λ a. is_selected a.role ≡ starts_selected (roles_left task.entry.what.now task.entry.flags.now turn.old)) }
     ensures lines { IfOk result (λ a. groups_left task.entry turn.old at
         ≡ put_lines (joins_lines task.entry) (group_of task.entry.text.now a) (groups_left task.entry turn.new (whole_end a.last))) }
@@ -143,9 +141,7 @@ fn take_joined(task: EventTask<'_>, turn: &mut Turn, begun: Group) -> Result<Gro
     requires lies { IsGroup task.text.now begun }
     requires known { KnowsNext task.flags.now turn.old }
     requires joins { (joins_lines task && is_selected begun.role) ≡ true }
-    ensures starts { IfOk result (λ a. a.first.start ≡ begun.first.start) }
-    ensures lies { IfOk result (λ a. IsGroup task.entry.text.now a) }
-    ensures known { OnOk result (KnowsNext task.entry.flags.now turn.new) }
+    ensures takes { TakesLines task.entry turn.new begun.first.start result }
     ensures lines { IfOk result (λ a.
         put_lines (joins_lines task.entry) (group_of task.entry.text.now begun) (groups_left task.entry turn.old (whole_end begun.last))
         ≡ group_of task.entry.text.now a ∷ groups_left task.entry turn.new (whole_end a.last)) }
@@ -168,9 +164,7 @@ fn take_joined(task: EventTask<'_>, turn: &mut Turn, begun: Group) -> Result<Gro
 pub(crate) fn take_group(task: EventTask<'_>, turn: &mut Turn, at: usize) -> Result<Group, Fault>
     requires below { at < length task.text.now }
     requires known { KnowsNext task.flags.now turn.old }
-    ensures starts { IfOk result (λ a. a.first.start ≡ at) }
-    ensures lies { IfOk result (λ a. IsGroup task.entry.text.now a) }
-    ensures known { OnOk result (KnowsNext task.entry.flags.now turn.new) }
+    ensures takes { TakesLines task.entry turn.new at result }
     ensures lines { IfOk result (λ a. groups_left task.entry turn.old at
         ≡ group_of task.entry.text.now a ∷ groups_left task.entry turn.new (whole_end a.last)) }
 {

@@ -1,14 +1,14 @@
 //! The report of a text in memory, record by record.
-ghost use Rattle.std.specs.Prelude.{◌≡◌, ◌++◌, ◌<◌, ◌≤◌, ℕ, [], List, OnOk, IfErr, IfOk, IsTrue, length, take};
+ghost use Rattle.std.specs.Prelude.{◌≡◌, ◌<◌, ◌≤◌, ℕ, [], List, OnOk, IfErr, IfOk, IsTrue, length, take};
 ghost use Rattle.std.specs.Io.KnownBytes.{Appends, Keeps};
 ghost use Rattle.line_search.specs.LineMatchers.{LineMatcher};
 ghost use Rattle.line_search.specs.Searchers.{SearchesFor, found_by};
-ghost use Rattle.grep_core.specs.Blocks.{IsOver, SearchesBy, counts_lines, finds_by, reported_bytes};
+ghost use Rattle.grep_core.specs.Blocks.{IsOver, KeepsOn, SearchesBy, counts_lines, finds_by, reported_bytes};
 ghost use Rattle.grep_core.specs.ContextPrinting.{Waits};
 ghost use Rattle.grep_core.specs.LongLines.{WritesLines};
 ghost use Rattle.grep_core.specs.Report.{counted_as};
 ghost use Rattle.grep_core.specs.Reporting.{needs_spans};
-ghost use Rattle.text_report.specs.Records.{WritesBeginning, records_left, report_records, selected_records};
+ghost use Rattle.text_report.specs.Records.{ReportsRecords, WritesBeginning, records_left, report_records, selected_records};
 
 use crate::lines::line_at;
 use grep_core::{
@@ -34,16 +34,9 @@ fn report_record(
 ) -> Result<usize, Fault>
     requires waits { Waits task.what.now progress.old.telling.course }
     requires below { at < length text.now }
-    ensures same { finder.new ≡ finder.old }
-    ensures waits { OnOk result (Waits task.entry.what.now progress.new.telling.course) }
-    ensures on { IfOk result (λ next. at < next) }
-    ensures within { IfOk result (λ next. next ≤ length text.now) }
-    ensures goes_on { IfOk result (λ next. (by : SearchesBy task.entry finder.old) →
-        out.old.items ++ reported_bytes task.entry (finds_by task.entry by) progress.old (records_left task.entry text.now at)
-        ≡ out.new.items ++ reported_bytes task.entry (finds_by task.entry by) progress.new (records_left task.entry text.now next)) }
-    ensures counts { IfOk result (λ next. (by : SearchesBy task.entry finder.old) →
-        counts_lines task.entry (finds_by task.entry by) progress.new (records_left task.entry text.now next)
-        ≡ counts_lines task.entry (finds_by task.entry by) progress.old (records_left task.entry text.now at)) }
+    ensures keeps { KeepsOn task.entry finder.old finder.new progress.new result }
+    ensures reports { IfOk result
+        (ReportsRecords task.entry finder.old progress.old progress.new out.old.items out.new.items text.now at) }
 {
     let Some(line) = line_at(text, task.what.terminator, 1, at) else {
         return Err(Fault::TooLong);
@@ -76,16 +69,9 @@ fn report_some(
 ) -> Result<usize, Fault>
     requires waits { Waits task.what.now progress.old.telling.course }
     requires below { start < length text.now }
-    ensures same { finder.new ≡ finder.old }
-    ensures waits { OnOk result (Waits task.entry.what.now progress.new.telling.course) }
-    ensures on { IfOk result (λ next. start < next) }
-    ensures within { IfOk result (λ next. next ≤ length text.now) }
-    ensures goes_on { IfOk result (λ next. (by : SearchesBy task.entry finder.old) →
-        out.old.items ++ reported_bytes task.entry (finds_by task.entry by) progress.old (records_left task.entry text.now start)
-        ≡ out.new.items ++ reported_bytes task.entry (finds_by task.entry by) progress.new (records_left task.entry text.now next)) }
-    ensures counts { IfOk result (λ next. (by : SearchesBy task.entry finder.old) →
-        counts_lines task.entry (finds_by task.entry by) progress.new (records_left task.entry text.now next)
-        ≡ counts_lines task.entry (finds_by task.entry by) progress.old (records_left task.entry text.now start)) }
+    ensures keeps { KeepsOn task.entry finder.old finder.new progress.new result }
+    ensures reports { IfOk result
+        (ReportsRecords task.entry finder.old progress.old progress.new out.old.items out.new.items text.now start) }
 {
     let mut at = match report_record(alloc, out, finder, task, progress, text, start) {
         Ok(next) => next,
@@ -112,8 +98,7 @@ fn write_some<W: Write>(
 ) -> Result<usize, Fault>
     requires waits { Waits task.what.now progress.old.telling.course }
     requires below { start < length text.now }
-    ensures same { finder.new ≡ finder.old }
-    ensures waits { OnOk result (Waits task.entry.what.now progress.new.telling.course) }
+    ensures keeps { KeepsOn task.entry finder.old finder.new progress.new result }
     ensures on { IfOk result (λ next. start < next) }
     ensures within { IfOk result (λ next. next ≤ length text.now) }
     ensures writes { IfOk result (λ next. (by : SearchesBy task.entry finder.old) →
@@ -144,8 +129,7 @@ fn write_records<W: Write>(
     text: &[u8],
 ) -> Result<usize, Fault>
     requires waits { Waits task.what.now progress.old.telling.course }
-    ensures same { finder.new ≡ finder.old }
-    ensures waits { OnOk result (Waits task.entry.what.now progress.new.telling.course) }
+    ensures keeps { KeepsOn task.entry finder.old finder.new progress.new result }
     ensures writes { IfOk result (λ next. (by : SearchesBy task.entry finder.old) →
         WritesLines task.entry (finds_by task.entry by) progress.old progress.new (records_left task.entry text.now 0)
         (records_left task.entry text.now next) (W.contents writer.old) (W.contents writer.new)) }

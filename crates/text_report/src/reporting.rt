@@ -7,7 +7,7 @@ ghost use Rattle.line_search.specs.Searchers.{SearchesFor};
 ghost use Rattle.grep_core.specs.ContextPrinting.{Waits};
 ghost use Rattle.grep_core.specs.Report.{counted_as};
 ghost use Rattle.text_report.specs.LineSpans.{line_of};
-ghost use Rattle.text_report.specs.TextProgress.{ReportsLines, WritesTextLines, WritesPrefix, count_left, matches_of_task, lines_left, reported_left};
+ghost use Rattle.text_report.specs.TextProgress.{LeavesLines, ReportsLines, WritesTextLines, WritesPrefix, count_left, matches_of_task, lines_left, reported_left};
 ghost use Rattle.text_report.specs.TextReports.{by_starts, counts_begun, text_item, report_as_it_is, report_found, selected_as_it_is, selected_in_found};
 ghost use Rattle.text_report.specs.Touching.{AreBefore, StartInOrder, has_match_of, parts_in};
 
@@ -136,10 +136,8 @@ fn report_next(
 ) -> Result<bool, Fault>
     requires waits { Waits task.what.now progress.old.telling.course }
     requires within { progress.old.at.place ≤ length task.text.now }
-    ensures waits { OnOk result (Waits task.entry.what.now progress.new.telling.course) }
-    ensures within { OnOk result (progress.new.at.place ≤ length task.entry.text.now) }
+    ensures leaves { LeavesLines task.entry progress.new result }
     ensures on { IfOk result (λ more. more ≡ true → progress.old.at.place < progress.new.at.place) }
-    ensures end { IfOk result (λ more. more ≡ false → lines_left task.entry progress.new ≡ []) }
     ensures goes_on { OnOk result (StartInOrder (matches_of_task task.entry) → AreBefore task.entry.found.now progress.old.at.first progress.old.at.place →
         ReportsLines task.entry progress.old progress.new out.old.items out.new.items) }
 {
@@ -161,9 +159,7 @@ fn report_some(
 ) -> Result<bool, Fault>
     requires waits { Waits task.what.now progress.old.telling.course }
     requires within { progress.old.at.place ≤ length task.text.now }
-    ensures waits { OnOk result (Waits task.entry.what.now progress.new.telling.course) }
-    ensures within { OnOk result (progress.new.at.place ≤ length task.entry.text.now) }
-    ensures end { IfOk result (λ more. more ≡ false → lines_left task.entry progress.new ≡ []) }
+    ensures leaves { LeavesLines task.entry progress.new result }
     ensures goes_on { OnOk result (StartInOrder (matches_of_task task.entry) → AreBefore task.entry.found.now progress.old.at.first progress.old.at.place →
         ReportsLines task.entry progress.old progress.new out.old.items out.new.items) }
 {
@@ -189,9 +185,7 @@ fn write_some<W: Write>(
 ) -> Result<bool, Fault>
     requires waits { Waits task.what.now progress.old.telling.course }
     requires within { progress.old.at.place ≤ length task.text.now }
-    ensures waits { OnOk result (Waits task.entry.what.now progress.new.telling.course) }
-    ensures within { OnOk result (progress.new.at.place ≤ length task.entry.text.now) }
-    ensures end { IfOk result (λ more. more ≡ false → lines_left task.entry progress.new ≡ []) }
+    ensures leaves { LeavesLines task.entry progress.new result }
     ensures writes { OnOk result (StartInOrder (matches_of_task task.entry) → AreBefore task.entry.found.now progress.old.at.first progress.old.at.place →
         WritesTextLines task.entry progress.old progress.new (W.contents writer.old) (W.contents writer.new)) }
     ensures fault { IfErr result (λ _. StartInOrder (matches_of_task task.entry) →

@@ -12,10 +12,10 @@ loop-task-preserved c =
     let old = c.loop-task in
     let next = c.in-Ok.next in
     record {
-      lies = joined_lies t.text.now old.group next c.in-Ok-joined.group c.in-Ok-joined.ensures old.invariant.lies c.in-Ok.ensures.lies
-          (c.in-Ok.ensures.starts ∙ c.whole_end-in-loop-task.ensures);
+      lies = joined_lies t.text.now old.group next c.in-Ok-joined.group c.in-Ok-joined.ensures old.invariant.lies c.in-Ok.ensures.takes.lies
+          (c.in-Ok.ensures.takes.starts ∙ c.whole_end-in-loop-task.ensures);
       starts = ap (λ (g : Group). g.first.start) c.in-Ok-joined.ensures ∙ old.invariant.starts;
-      known = c.in-Ok.ensures.known;
+      known = c.in-Ok.ensures.takes.known;
       joins = ap (λ (g : Group). joins_lines t && is_selected g.role) c.in-Ok-joined.ensures ∙ old.invariant.joins;
       kept = old.invariant.kept
           ∙ ap (λ n. put_lines (joins_lines t) (group_of t.text.now old.group) (groups_left t old.turn n)) (sym c.whole_end-in-loop-task.ensures)

@@ -11,7 +11,7 @@ use Rattle.text_report.proofs.event_loop.push_next.Goals as goal
 pub returns-clause-past : goal.returns-clause-past
 returns-clause-past c =
     past_still c.args.task.found c.match_index-first.result c.args.progress.now.at c.whole_end-progress.result
-    (omega (arith, c.in-Ok.ensures.lies.forward, c.in-Ok.ensures.starts, c.whole_end-progress.ensures)) c.match_index-first.ensures
+    (omega (arith, c.in-Ok.ensures.takes.lies.forward, c.in-Ok.ensures.takes.starts, c.whole_end-progress.ensures)) c.match_index-first.ensures
 
 pub returns-clause-goes_on : goal.returns-clause-goes_on
 returns-clause-goes_on c by order before =

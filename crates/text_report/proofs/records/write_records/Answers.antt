@@ -8,8 +8,8 @@ use Rattle.text_report.proofs.records.write_records.Goals as goal
 pub loop-at-preserved : goal.loop-at-preserved
 loop-at-preserved g c = record {
   inside = c.in-Ok.ensures.within;
-  same = c.in-Ok.ensures.same ∙ c.loop-at.invariant.same;
-  waits = c.in-Ok.ensures.waits;
+  same = c.in-Ok.ensures.keeps.same ∙ c.loop-at.invariant.same;
+  waits = c.in-Ok.ensures.keeps.waits;
   writes = λ by.
       then_sent c.args.task (finds_by c.args.task by) c.args.progress.now c.loop-at.progress c.write_some.new.progress
       (records_left c.args.task c.args.text.now 0) (records_left c.args.task c.args.text.now c.loop-at.at)

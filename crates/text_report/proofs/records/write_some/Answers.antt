@@ -9,7 +9,7 @@ returns-in-Ok-write_out-clause-writes g c by =
     (records_left c.args.task c.args.text.now c.args.start) (records_left c.args.task c.args.text.now c.in-Ok.next)
     c.new-out.result.items c.deref.result.now c.report_some.new.out.items
     (g.W.Write.contents c.args.writer.now) (g.W.Write.contents c.write_out.new.writer) c.new-out.ensures.items c.deref.ensures.value
-    (c.in-Ok.ensures.goes_on by) (c.in-Ok.ensures.counts by) c.in-Ok-write_out.ensures.ok
+    (c.in-Ok.ensures.reports.goes_on by) (c.in-Ok.ensures.reports.counts by) c.in-Ok-write_out.ensures.ok
 
 pub returns-in-Err-clause-fault : goal.returns-in-Err-clause-fault
 returns-in-Err-clause-fault g c by = none_begun c.args.task (finds_by c.args.task by) c.args.progress.now
@@ -21,4 +21,4 @@ returns-clause-fault g c by =
     (records_left c.args.task c.args.text.now c.args.start) (records_left c.args.task c.args.text.now c.in-Ok.next)
     c.new-out.result.items c.deref.result.now c.report_some.new.out.items
     (g.W.Write.contents c.args.writer.now) (g.W.Write.contents c.write_out.new.writer) c.new-out.ensures.items c.deref.ensures.value
-    (c.in-Ok.ensures.goes_on by) c.in-Err-write_out.ensures.part
+    (c.in-Ok.ensures.reports.goes_on by) c.in-Err-write_out.ensures.part

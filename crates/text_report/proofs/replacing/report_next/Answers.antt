@@ -10,26 +10,26 @@ use Rattle.text_report.proofs.replacing.report_next.Goals as goal
 
 pub report_group-requires-clause-lies : goal.report_group-requires-clause-lies
 report_group-requires-clause-lies c =
-    subst (λ (z : EventTask). IsGroup z.text.now c.in-Ok.group) c.events_of.ensures c.in-Ok.ensures.lies
+    subst (λ (z : EventTask). IsGroup z.text.now c.in-Ok.group) c.events_of.ensures c.in-Ok.ensures.takes.lies
 
 pub report_group-requires-clause-counted : goal.report_group-requires-clause-counted
 report_group-requires-clause-counted c =
     now_begun c.args.task.task.found.now c.args.progress.now.first c.begun_before-first.result c.args.progress.now.at
-    c.in-Ok.group.first.start c.requires.begun c.begun_before-first.ensures.counted c.in-Ok.ensures.starts
+    c.in-Ok.group.first.start c.requires.begun c.begun_before-first.ensures.counted c.in-Ok.ensures.takes.starts
 
 pub report_group-requires-clause-begun : goal.report_group-requires-clause-begun
 report_group-requires-clause-begun c =
     are_begun c.args.task.task.found.now c.begun_before-first.result c.in-Ok.group.first.start
     (now_begun c.args.task.task.found.now c.args.progress.now.first c.begun_before-first.result c.args.progress.now.at
-    c.in-Ok.group.first.start c.requires.begun c.begun_before-first.ensures.counted c.in-Ok.ensures.starts)
+    c.in-Ok.group.first.start c.requires.begun c.begun_before-first.ensures.counted c.in-Ok.ensures.takes.starts)
 
 pub returns-clause-begun : goal.returns-clause-begun
 returns-clause-begun c =
     still_begun c.args.task.task.found.now c.begun_before-first.result c.in-Ok.group.first.start c.whole_end-progress.result
-    (omega (arith, c.in-Ok.ensures.lies.forward, c.whole_end-progress.ensures))
+    (omega (arith, c.in-Ok.ensures.takes.lies.forward, c.whole_end-progress.ensures))
     (are_begun c.args.task.task.found.now c.begun_before-first.result c.in-Ok.group.first.start
     (now_begun c.args.task.task.found.now c.args.progress.now.first c.begun_before-first.result c.args.progress.now.at
-    c.in-Ok.group.first.start c.requires.begun c.begun_before-first.ensures.counted c.in-Ok.ensures.starts))
+    c.in-Ok.group.first.start c.requires.begun c.begun_before-first.ensures.counted c.in-Ok.ensures.takes.starts))
 
 pub returns-clause-goes_on : goal.returns-clause-goes_on
 returns-clause-goes_on c order =

@@ -10,8 +10,8 @@ loop-parts-init g c = record {
 
 pub loop-parts-preserved : goal.loop-parts-preserved
 loop-parts-preserved g c = record {
-  waits = c.in-Ok-true.ensures.waits;
-  within = c.in-Ok-true.ensures.within;
+  waits = c.in-Ok-true.ensures.leaves.waits;
+  within = c.in-Ok-true.ensures.leaves.within;
   writes = λ order before.
       let a = c.loop-parts.invariant.writes order before in
       then_writes c.args.task c.args.progress.now c.loop-parts.progress c.write_some.new.progress (g.W.Write.contents c.args.writer.now)
