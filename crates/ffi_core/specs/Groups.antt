@@ -1,8 +1,11 @@
 -- Groups of a compiled regex, and why a search for them fails.
-use Rattle.std.specs.Prelude.{◌≡◌, ℕ, List, [], Option, Some, None, length, slice_get, ⊤}
+use Rattle.std.specs.Prelude.{◌≡◌, ℕ, List, [], Option, Some, None, Result, IfErr, IfOk, length, replicate, slice_get, ⊤}
 use Rattle.regex_syntax.specs.Grammar.{Names}
 use Rattle.meta_regex.specs.Regexes.{IsSearchError, overlaid}
+use Rattle.meta_regex.specs.declared.found_match.FoundMatch.{FoundMatch}
 use Rattle.group_finder.specs.Patterns.{IsNamedBy, name_at}
+use Rattle.group_finder.specs.Slots.{no_offset}
+use Rattle.captures.specs.Captures.{HasCaptures}
 use Rattle.captures.specs.declared.errors.CapturesError.{CapturesError}
 use Rattle.captures.specs.declared.errors.CapturesError.TheVariants.{Search, NoMemory, TooLarge}
 use Rattle.ffi_core.specs.Compiled.{Regexed, config_by}
@@ -14,6 +17,13 @@ abbrev pub IsGroupSearchError : Regexed → List ℕ → CapturesError → Type 
 IsGroupSearchError v h (Search e) = IsSearchError (config_by v) h e
 IsGroupSearchError v h NoMemory = ⊤
 IsGroupSearchError v h (TooLarge n) = n ≡ groups_limit_of v.options
+
+-- What a search for the leftmost match from an offset on, with its groups, returns. The slots get their offsets. On an error, no slot holds an
+-- offset.
+pub record FindsGroups (v : Regexed) (h : List ℕ) (from : ℕ) (old new : List ℕ) (result : Result (Option FoundMatch) CapturesError) : Type 0 where
+  pub found : IfOk result (λ o. HasCaptures (config_by v) v.texts h from (length old) o new)
+  pub cleared : IfErr result (λ _. new ≡ replicate (length old) no_offset)
+  pub refused : IfErr result (IsGroupSearchError v h)
 
 -- The number of groups that the grammar reads in the pattern with a number, group 0 counted. It is 0 if there is no such pattern.
 pub record IsGroupCount (v : Regexed) (pattern : ℕ) (n : ℕ) : Type 0 where

@@ -11,7 +11,7 @@ ghost use Rattle.captures.specs.Groups.{AreGroupsOf};
 ghost use Rattle.captures.specs.Replacing.{IsReplaced, IsReplacementFor, Said};
 ghost use Rattle.ffi_core.specs.Compiled.{IsMadeOf, IsNewError, config_by};
 ghost use Rattle.ffi_core.specs.Options.{options_of};
-ghost use Rattle.ffi_core.specs.Groups.{IsGroupCount, IsGroupName, IsGroupSearchError};
+ghost use Rattle.ffi_core.specs.Groups.{FindsGroups, IsGroupCount, IsGroupName, IsGroupSearchError};
 ghost use Rattle.ffi_core.specs.Replacing.{said_by};
 
 use crate::failure::NewError;
@@ -196,9 +196,7 @@ impl Compiled {
     ) -> Result<Option<FoundMatch>, CapturesError>
         requires within { from ≤ length haystack.now }
         ensures same { self.new ≡ self.old }
-        ensures found { IfOk result (λ o. HasCaptures (config_by self.old) self.old.texts haystack.now from (length slots.old) o slots.new) }
-        ensures cleared { IfErr result (λ _. slots.new ≡ replicate (length slots.old) no_offset) }
-        ensures refused { IfErr result (IsGroupSearchError self.old haystack.now) }
+        ensures finds { FindsGroups self.old haystack.now from slots.old slots.new result }
     {
         self.groups
             .captures_at(alloc, &self.regex, &mut self.cache, haystack, from, slots)
@@ -219,10 +217,8 @@ impl Compiled {
     ) -> Result<Option<FoundMatch>, CapturesError>
         requires within { from ≤ length haystack.now }
         ensures same { self.new ≡ self.old }
-        ensures found { IfOk result (λ o. HasCaptures (config_by self.old) self.old.texts haystack.now from (length slots.old) o slots.new) }
+        ensures finds { FindsGroups self.old haystack.now from slots.old slots.new result }
         ensures none { IfOk result (λ o. IfNone o (slots.new ≡ replicate (length slots.old) no_offset)) }
-        ensures cleared { IfErr result (λ _. slots.new ≡ replicate (length slots.old) no_offset) }
-        ensures refused { IfErr result (IsGroupSearchError self.old haystack.now) }
     {
         match self.find_groups(alloc, haystack, from, slots) {
             Ok(Some(found)) => Ok(Some(found)),

@@ -9,12 +9,17 @@ use Rattle.captures.specs.Captures.{AreCaptured, AreFirstCaptured, HasCaptures}
 use Rattle.captures.specs.NextMatches.{AreNext, AreNextBegun, AreNextCaptured, IsFullOrLast}
 use Rattle.captures.specs.declared.errors.CapturesError.{CapturesError}
 use Rattle.ffi_core.specs.Compiled.{Regexed, config_by, IsCallError}
-use Rattle.ffi_core.specs.Failures.{failure_of_captures, failure_of_new, failure_of_search, without_cause}
+use Rattle.ffi_core.specs.Failures.{failure_of_captures, failure_of_new, failure_of_search, plain, without_cause}
 use Rattle.ffi_core.specs.Groups.{IsGroupSearchError}
 use Rattle.ffi_core.specs.Replacing.{IsReplacedInto, said_by}
 use Rattle.ffi_core.specs.declared.failure.Failure.{Failure}
 use Rattle.ffi_core.specs.declared.failure.NewError.{NewError}
 use Rattle.ffi_core.specs.declared.options.Options.{Options}
+
+-- The error of a search has the status that the call returns. If that is 0 or 1, the error has nothing else.
+pub record ReportsStatus (status : ℕ) (error : Failure) : Type 0 where
+  pub reported : error.status ≡ status
+  pub alone : status < 2 → error ≡ plain status
 
 -- A status that isn't 0 says why no regex is made from these patterns. The cause for which a pattern is rejected is left open, since only
 -- messages depend on it.

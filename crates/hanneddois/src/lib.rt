@@ -19,7 +19,7 @@ ghost use Rattle.ffi_core.specs.Groups.{IsGroupCount, IsGroupName};
 ghost use Rattle.ffi_core.specs.Texts.{cut};
 ghost use Rattle.hanneddois.specs.Answers.{AnswersIsMatch, AnswersFind, AnswersCaptures, AnswersAll, AnswersCapturesAll, AnswersCapturesNext, AnswersWhichMatch};
 ghost use Rattle.hanneddois.specs.Answers.{KeptNext, has_rows, AnswersReplace, FailsReplace, is_replaced, pattern_count_of};
-ghost use Rattle.hanneddois.specs.Answers.{RejectsNew, FailsSearch, FailsCaptures, FailsMatchingPatterns};
+ghost use Rattle.hanneddois.specs.Answers.{RejectsNew, ReportsStatus, FailsSearch, FailsCaptures, FailsMatchingPatterns};
 
 use apart::boxed;
 use ffi_core::{
@@ -275,9 +275,8 @@ pub extern "C" fn hanneddois_is_match(
     haystack: &[u8],
     error: &mut Failure,
 ) -> u32
-    ensures reported { error.new.status ≡ result }
+    ensures status { ReportsStatus result error.new }
     ensures same { regex.new.value ≡ regex.old.value }
-    ensures plain { result < 2 → error.new ≡ plain result }
     ensures empty { regex.old.value ≡ None → error.new ≡ plain 2 }
     ensures answer { IfSome regex.old.value (λ v. AnswersIsMatch v haystack.now result) }
     ensures refused { IfSome regex.old.value (λ v. FailsSearch v haystack.now error.new) }
@@ -305,9 +304,8 @@ pub extern "C" fn hanneddois_find_at(
     found: &mut FoundMatch,
     error: &mut Failure,
 ) -> u32
-    ensures reported { error.new.status ≡ result }
+    ensures status { ReportsStatus result error.new }
     ensures same { regex.new.value ≡ regex.old.value }
-    ensures plain { result < 2 → error.new ≡ plain result }
     ensures none { 0 < result → found.new ≡ record { pattern = 0; start = 0; end = 0 } }
     ensures empty { regex.old.value ≡ None → error.new ≡ plain 2 }
     ensures behind { length haystack.now < from → error.new ≡ plain 2 }
@@ -355,9 +353,8 @@ pub extern "C" fn hanneddois_captures(
     slots: &mut [usize],
     error: &mut Failure,
 ) -> u32
-    ensures reported { error.new.status ≡ result }
+    ensures status { ReportsStatus result error.new }
     ensures same { regex.new.value ≡ regex.old.value }
-    ensures plain { result < 2 → error.new ≡ plain result }
     ensures none { 0 < result → found.new ≡ record { pattern = 0; start = 0; end = 0 } }
     ensures cleared { 0 < result → slots.new ≡ replicate (length slots.old) no_offset }
     ensures empty { regex.old.value ≡ None → error.new ≡ plain 2 }
@@ -394,9 +391,8 @@ pub extern "C" fn hanneddois_find_all(
     count: &mut usize,
     error: &mut Failure,
 ) -> u32
-    ensures reported { error.new.status ≡ result }
+    ensures status { ReportsStatus result error.new }
     ensures same { regex.new.value ≡ regex.old.value }
-    ensures plain { result < 2 → error.new ≡ plain result }
     ensures empty { regex.old.value ≡ None → (error.new ≡ plain 2) × (count.new ≡ 0) × (matches.new ≡ matches.old) }
     ensures none { result ≡ 1 → count.new ≡ 0 }
     ensures answer { IfSome regex.old.value (λ v. AnswersAll v haystack.now count.new matches.old matches.new result) }
@@ -439,9 +435,8 @@ pub extern "C" fn hanneddois_captures_all(
     count: &mut usize,
     error: &mut Failure,
 ) -> u32
-    ensures reported { error.new.status ≡ result }
+    ensures status { ReportsStatus result error.new }
     ensures same { regex.new.value ≡ regex.old.value }
-    ensures plain { result < 2 → error.new ≡ plain result }
     ensures none { result ≡ 1 → count.new ≡ 0 }
     ensures empty { regex.old.value ≡ None →
         (error.new ≡ plain 2) × (count.new ≡ 0) × (matches.new ≡ matches.old) × (slots.new ≡ slots.old) }
@@ -489,9 +484,8 @@ fn next_matches(
     count: &mut usize,
     error: &mut Failure,
 ) -> u32
-    ensures reported { error.new.status ≡ result }
+    ensures status { ReportsStatus result error.new }
     ensures same { inside.new ≡ inside.old }
-    ensures plain { result < 2 → error.new ≡ plain result }
     ensures none { result ≡ 1 → count.new ≡ 0 }
     ensures answer { AnswersCapturesNext inside.old haystack.now from.old width count.new from.new matches.old matches.new slots.old slots.new result }
     ensures refused { FailsCaptures inside.old haystack.now error.new }
@@ -519,9 +513,8 @@ pub extern "C" fn hanneddois_captures_next(
     count: &mut usize,
     error: &mut Failure,
 ) -> u32
-    ensures reported { error.new.status ≡ result }
+    ensures status { ReportsStatus result error.new }
     ensures same { regex.new.value ≡ regex.old.value }
-    ensures plain { result < 2 → error.new ≡ plain result }
     ensures none { result ≡ 1 → count.new ≡ 0 }
     ensures empty { regex.old.value ≡ None → (error.new ≡ plain 2) × KeptNext from.old from.new count.new matches.old matches.new slots.old slots.new }
     ensures room { has_rows (length matches.old) (length slots.old) width ≡ false →
@@ -623,9 +616,8 @@ pub extern "C" fn hanneddois_matching_patterns(
     count: &mut usize,
     error: &mut Failure,
 ) -> u32
-    ensures reported { error.new.status ≡ result }
+    ensures status { ReportsStatus result error.new }
     ensures same { regex.new.value ≡ regex.old.value }
-    ensures plain { result < 2 → error.new ≡ plain result }
     ensures none { 0 < result → count.new ≡ 0 }
     ensures unmarked { 1 < result → matched.new ≡ replicate (length matched.old) 0 }
     ensures empty { regex.old.value ≡ None → error.new ≡ plain 2 }
