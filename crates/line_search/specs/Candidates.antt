@@ -1,7 +1,7 @@
 -- Which lines of a haystack may have a match, by a regex built from trees that are changed to search blocks of lines.
 use Rattle.std.specs.Prelude.{◌≡◌, ◌==◌, ℕ, ◌+◌, ◌-◌, ◌<◌, ◌≤◌, Bool, true, false, List, [], ◌∷◌, All, drop, length, slice_get, take}
 use Rattle.std.specs.Prelude.{slice_range}
-use Rattle.std.specs.Prelude.{Option, Some}
+use Rattle.std.specs.Prelude.{Option, Some, Result, IfErr, IfOk}
 use Rattle.std.specs.Prelude.{None, if◌then◌else◌}
 use Rattle.std.specs.List.{position}
 use Rattle.ucd_perl.specs.Perl.{is_word_char}
@@ -18,6 +18,8 @@ use Rattle.line_search.specs.BoundedTrees.{IsTreeForLines}
 use Rattle.line_search.specs.Meant.{line_config}
 use Rattle.line_search.specs.declared.candidates.BlockFacts.{BlockFacts}
 use Rattle.line_search.specs.declared.candidates.Reached.{Reached}
+use Rattle.line_search.specs.declared.fault.Fault.{Fault}
+use Rattle.line_search.specs.declared.fault.Fault.TheVariants.{NoMemory}
 use Rattle.line_search.specs.declared.patterns.PatternOptions.{PatternOptions}
 use Rattle.line_search.specs.Lines.{ended, searched, split_lines}
 use Rattle.line_search.specs.Patterns.{has_match_in}
@@ -74,6 +76,11 @@ pub record IsNextLine (how : PatternOptions) (texts : List (List ℕ)) (block : 
   pub starts : r.start < length block → IsLineStart block r.start
   pub passed : HaveNoMatch how texts (slice_range block at r.start)
   pub has : r.has ≡ true → HasMatchAt how texts block r.start
+
+-- What a call returns that looks for this line. It fails only if memory runs out.
+pub record ReachesLine (how : PatternOptions) (texts : List (List ℕ)) (block : List ℕ) (at : ℕ) (result : Result Reached Fault) : Type 0 where
+  pub next : IfOk result (IsNextLine how texts block at)
+  pub refused : IfErr result (λ e. e ≡ NoMemory)
 
 -- Where a search of a block for these trees stops, if it starts at `at`. Either this offset is the least end of their spans in the block
 -- from `at` on. Or a quit byte of the search is at this offset, and none of these spans ends before it.

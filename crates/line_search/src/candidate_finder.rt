@@ -1,11 +1,10 @@
 //! Finds the lines of blocks that may have a match, in inputs of any script.
-ghost use Rattle.std.specs.Prelude.{◌≡◌, ◌≤◌, ◌∷◌, [], IfErr, IfOk, IfSome, true, false, length, not};
+ghost use Rattle.std.specs.Prelude.{◌≡◌, ◌≤◌, ◌∷◌, [], IfSome, true, false, length, not};
 ghost use Rattle.hir_regex.specs.Built.{IsBuilt};
 ghost use Rattle.line_search.specs.BoundedTrees.{IsTreeForLines};
-ghost use Rattle.line_search.specs.Candidates.{IsCandidatesOf, IsLineStart, IsNextLine, block_regex};
+ghost use Rattle.line_search.specs.Candidates.{IsCandidatesOf, IsLineStart, ReachesLine, block_regex};
 ghost use Rattle.line_trees.specs.LineTrees.{reads_feed};
 ghost use Rattle.line_search.specs.Searchers.{line_settings};
-ghost use Rattle.line_search.specs.declared.fault.Fault.TheVariants.{NoMemory};
 
 use crate::candidates::{BlockFacts, Reached, block_search, exact_regex, stop_of, wordless_regex};
 use crate::fault::Fault;
@@ -142,8 +141,7 @@ impl<'t> CandidateFinder<'t> {
         requires within { at ≤ length block.now }
         requires starts { IsLineStart block.now at }
         ensures same { self.new ≡ self.old }
-        ensures next { IfOk result (IsNextLine self.old.0 self.old.1 block.now at) }
-        ensures refused { IfErr result (λ e. e ≡ NoMemory) }
+        ensures reaches { ReachesLine self.old.0 self.old.1 block.now at result }
     {
         let Some(wordless) = &mut self.wordless else {
             return Ok(Reached::here(at));
@@ -190,8 +188,7 @@ impl<'t> CandidateFinder<'t> {
         requires within { at ≤ length block.now }
         requires starts { IsLineStart block.now at }
         ensures same { self.new ≡ self.old }
-        ensures next { IfOk result (IsNextLine self.old.0 self.old.1 block.now at) }
-        ensures refused { IfErr result (λ e. e ≡ NoMemory) }
+        ensures reaches { ReachesLine self.old.0 self.old.1 block.now at result }
     {
         if self.wordless_left == 0 {
             let Some(exact) = &mut self.exact else {

@@ -1,6 +1,7 @@
 -- What a regex is made from, and what its searches return.
 use Rattle.std.specs.Prelude.{◌≡◌, ◌≢◌, ◌⊎◌, ◌↔◌, ◌≤◌, ℕ, Bool, true, false, List, [], ◌∷◌, All, Option, Some, None, IfSome, map, length}
-use Rattle.std.specs.Prelude.{option_map, is_some, take, ⊤, Result, IfErr, IfOk, replicate}
+use Rattle.std.specs.Prelude.{option_map, is_some, take, ⊤, Result, IfErr, IfOk, Vec, replicate}
+use Rattle.std.specs.declared.alloc.Global.{Global}
 use Rattle.std.specs.List.{filter}
 use Rattle.std.specs.Str.Lossy.{utf8_valid_len}
 use Rattle.regex_hir.specs.Re.{Re}
@@ -174,6 +175,11 @@ pub record AreFirstOfAll (config : Config) (texts : List (List ℕ)) (h : List �
 -- For each pattern, the report says whether the matcher finds a match of it anywhere.
 abbrev pub AreWhich : Config → List (List ℕ) → List ℕ → List Bool → Type 0
 AreWhich config texts h reported = (res : List Re) → AreReadAs config texts res → reported ≡ which_match config.utf8 res h
+
+-- What a call returns that says this.
+pub record SaysWhich (config : Config) (texts : List (List ℕ)) (h : List ℕ) (result : Result (Vec Bool Global) SearchError) : Type 0 where
+  pub reported : IfOk result (λ reported. AreWhich config texts h reported.items)
+  pub refused : IfErr result (IsSearchError config h)
 
 abbrev pub mark : Bool → ℕ
 mark true = 1

@@ -4,7 +4,7 @@ ghost use Rattle.search_core.specs.Utf8.{IsValidText};
 ghost use Rattle.meta_regex.specs.declared.errors.SearchError.TheVariants.{NoMemory as NoneFree};
 ghost use Rattle.meta_regex.specs.Caches.{IsCacheOf};
 ghost use Rattle.meta_regex.specs.Wordless.{MayMatch};
-ghost use Rattle.meta_regex.specs.Regexes.{AreWhich, IsSearchError, MarksWhich, config_by, hits, mark, overlaid};
+ghost use Rattle.meta_regex.specs.Regexes.{AreWhich, MarksWhich, SaysWhich, config_by, hits, mark, overlaid};
 
 use crate::cache::Cache;
 use crate::compiled::Regex;
@@ -128,8 +128,7 @@ impl Regex {
     ) -> Result<Vec<bool>, SearchError>
         requires { IsCacheOf self.now cache.old }
         ensures own { IsCacheOf self.now cache.new }
-        ensures reported { IfOk result (λ reported. AreWhich (config_by self.now) self.now.texts haystack.now reported.items) }
-        ensures refused { IfErr result (IsSearchError (config_by self.now) haystack.now) }
+        ensures says { SaysWhich (config_by self.now) self.now.texts haystack.now result }
     {
         let may = match self.may_match(alloc, cache, haystack) {
             Ok(may) => may,
@@ -158,8 +157,7 @@ impl Regex {
         requires own { IsCacheOf self.now cache.old }
         requires valid { (config_by self.now).utf8 ≡ true → IsValidText haystack.now }
         ensures own { IsCacheOf self.now cache.new }
-        ensures reported { IfOk result (λ reported. AreWhich (config_by self.now) self.now.texts haystack.now reported.items) }
-        ensures refused { IfErr result (IsSearchError (config_by self.now) haystack.now) }
+        ensures says { SaysWhich (config_by self.now) self.now.texts haystack.now result }
     {
         self.prepare_matching_patterns(alloc, cache);
         if let Some(tests) = self.matching_by_automaton(alloc, cache, haystack) {

@@ -10,13 +10,17 @@ use Rattle.line_search.specs.declared.patterns.PatternOptions.{PatternOptions}
 use Rattle.line_search.proofs.CandidateLemmas.{here_is_next, reached_is_next}
 use Rattle.line_search.proofs.candidate_finder.CandidateFinder.reach_wordless.Goals as goal
 
-pub returns-in_default-clause-next : goal.returns-in_default-clause-next
-returns-in_default-clause-next c =
-    subst (IsNextLine c.args.self.now.0 c.args.self.now.1 c.args.block.now c.args.at) (sym c.here.ensures)
-    (here_is_next c.args.self.now.0 c.args.self.now.1 c.args.block.now c.args.at c.requires.within c.requires.starts)
+pub returns-in_default-clause-reaches : goal.returns-in_default-clause-reaches
+returns-in_default-clause-reaches c =
+    record {
+      next =
+          subst (IsNextLine c.args.self.now.0 c.args.self.now.1 c.args.block.now c.args.at) (sym c.here.ensures)
+          (here_is_next c.args.self.now.0 c.args.self.now.1 c.args.block.now c.args.at c.requires.within c.requires.starts);
+      refused = tt;
+    }
 
-pub returns-clause-next : goal.returns-clause-next
-returns-clause-next c =
+pub returns-clause-reaches : goal.returns-clause-reaches
+returns-clause-reaches c =
     let how = c.self.inside.patterns.now.0 in
     let texts = c.self.inside.patterns.now.1 in
     let it : IsCandidatesOf how texts (block_regex c.in-Some.wordless.pair (record { exact = false; feedless = false; crlf = how.crlf })) =
@@ -24,13 +28,17 @@ returns-clause-next c =
     c.in-Some.is c.self.invariant.1 in
     let same : record { exact = false; feedless = false; crlf = how.crlf } ≡ c.without_words-known.result =
     ap (λ v. record { exact = false; feedless = false; crlf = v }) (ap (λ (h : PatternOptions). h.crlf) (sym c.how.ensures)) ∙ sym c.without_words-known.ensures in
-    subst (λ (v : PatternOptions × List (List ℕ)). IsNextLine v.0 v.1 c.args.block.now c.args.at c.reached-reached.result) c.self.view_is
-    (reached_is_next how texts (block_regex c.in-Some.wordless.pair c.without_words-known.result) c.args.block.now c.args.at c.in-Ok.stop
-    c.reached-reached.result
-    (subst (λ (k : BlockFacts). IsCandidatesOf how texts (block_regex c.in-Some.wordless.pair k)) same it) c.reached-reached.ensures.from c.reached-reached.ensures.within c.reached-reached.ensures.starts
-    (c.reached-reached.ensures.passed how texts c.in-Some.wordless.pair) (c.reached-reached.ensures.has how texts c.in-Some.wordless.pair)
-    (λ xs built. c.in-Ok.ensures.reported xs c.args.block.now
-    (c.find_earliest_end-found.ensures.found xs line_settings built refl refl is_word_char word_set)
-    (c.find_earliest_end-found.ensures.refused xs line_settings built refl refl is_word_char word_set))
-    (λ xs built. c.in-Ok.ensures.ends xs c.args.block.now
-    (c.find_earliest_end-found.ensures.found xs line_settings built refl refl is_word_char word_set)))
+    record {
+      next =
+          subst (λ (v : PatternOptions × List (List ℕ)). IsNextLine v.0 v.1 c.args.block.now c.args.at c.reached-reached.result) c.self.view_is
+          (reached_is_next how texts (block_regex c.in-Some.wordless.pair c.without_words-known.result) c.args.block.now c.args.at c.in-Ok.stop
+          c.reached-reached.result
+          (subst (λ (k : BlockFacts). IsCandidatesOf how texts (block_regex c.in-Some.wordless.pair k)) same it) c.reached-reached.ensures.from c.reached-reached.ensures.within c.reached-reached.ensures.starts
+          (c.reached-reached.ensures.passed how texts c.in-Some.wordless.pair) (c.reached-reached.ensures.has how texts c.in-Some.wordless.pair)
+          (λ xs built. c.in-Ok.ensures.reported xs c.args.block.now
+          (c.find_earliest_end-found.ensures.found xs line_settings built refl refl is_word_char word_set)
+          (c.find_earliest_end-found.ensures.refused xs line_settings built refl refl is_word_char word_set))
+          (λ xs built. c.in-Ok.ensures.ends xs c.args.block.now
+          (c.find_earliest_end-found.ensures.found xs line_settings built refl refl is_word_char word_set)));
+      refused = tt;
+    }

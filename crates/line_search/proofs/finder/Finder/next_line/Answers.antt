@@ -14,4 +14,4 @@ returns-clause-next c =
     subst (λ (s : Sought). IsNextLine s.how s.texts c.args.block.now c.args.at c.in_ok-reached-2.reached)
     (c.self.view_is ∙ c.skip_by_literals-skipped.ensures.same)
     (subst (λ (v : PatternOptions × List (List ℕ)). IsNextLine v.0 v.1 c.args.block.now c.args.at c.in_ok-reached-2.reached)
-    c.self.invariant.2 c.in_ok-reached-2.ensures.next)
+    c.self.invariant.2 c.in_ok-reached-2.ensures.reaches.next)

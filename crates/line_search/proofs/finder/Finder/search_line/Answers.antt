@@ -17,7 +17,7 @@ returns-then-reached-end-clause-next c =
     (next_in_part c.self.inside.patterns.now.0 c.self.inside.patterns.now.1 c.args.block.now c.args.at c.line_end-end.result
     c.line_end-end.ensures.within c.line_end-end.ensures.starts c.in_ok-reached.reached c.line_end-end.ensures.from
     (subst (λ (v : PatternOptions × List (List ℕ)). IsNextLine v.0 v.1 (take c.line_end-end.result c.args.block.now) c.args.at c.in_ok-reached.reached)
-    c.self.invariant.2 c.in_ok-reached.ensures.next)
+    c.self.invariant.2 c.in_ok-reached.ensures.reaches.next)
     (omega (arith, c.if-reached-end.true)))
 
 pub returns-clause-next : goal.returns-clause-next
@@ -28,5 +28,5 @@ returns-clause-next c =
     (next_after_part c.self.inside.patterns.now.0 c.self.inside.patterns.now.1 c.args.block.now c.args.at c.line_end-end.result
     c.line_end-end.ensures.within c.line_end-end.ensures.starts c.in_ok-reached.reached c.line_end-end.ensures.from
     (subst (λ (v : PatternOptions × List (List ℕ)). IsNextLine v.0 v.1 (take c.line_end-end.result c.args.block.now) c.args.at c.in_ok-reached.reached)
-    c.self.invariant.2 c.in_ok-reached.ensures.next)
+    c.self.invariant.2 c.in_ok-reached.ensures.reaches.next)
     (omega (arith, c.if-reached-end.false))))
