@@ -1,7 +1,8 @@
 -- A regex whose caches may be enlarged, and what its searches return.
-use Rattle.std.specs.Prelude.{◌<◌, ◌≤◌, ℕ, Bool, List, Option, Some, None, IfSome, Result, ⊤}
+use Rattle.std.specs.Prelude.{◌<◌, ◌≤◌, ℕ, Bool, true, false, List, Option, Some, None, IfSome, Result, ⊤}
 use Rattle.hir_core.specs.Tree.{Tree}
 use Rattle.search_types.specs.declared.match_error.MatchErrorKind.{MatchErrorKind}
+use Rattle.search_types.specs.declared.match_error.MatchErrorKind.TheVariants.{NoMemory}
 use Rattle.search_types.specs.Found.{Found}
 use Rattle.search_types.specs.Inputs.{Search}
 use Rattle.lazy_dfa.specs.Caches.{CacheValue}
@@ -11,12 +12,24 @@ use Rattle.regex_pair.specs.Pairs.{Pair, PairCache}
 use Rattle.regex_pair.specs.Taken.{IsWholeList}
 use Rattle.hir_regex.specs.declared.settings.Settings.{Settings}
 use Rattle.hir_regex.specs.Built.{IsBuilt}
+use Rattle.growing_regex.specs.declared.regex.TheConstants.{LARGEST}
 
 -- What a contract sees of such a regex: its two automata as they were made, and the largest capacity in bytes that its caches may be
 -- enlarged to.
 pub record Growing : Type 0 where
   pub pair : Pair
   pub largest : ℕ
+
+-- The largest capacity in bytes to which caches are enlarged if options set this capacity, or none: 256 MiB if they set none. If they set
+-- one, caches are never enlarged.
+abbrev pub largest_for : Option ℕ → ℕ
+largest_for None = LARGEST
+largest_for (Some bytes) = 0
+
+-- Whether the error of a search says that memory ran out. Otherwise the automata gave up.
+abbrev pub lacks_memory : MatchErrorKind → Bool
+lacks_memory NoMemory = true
+lacks_memory _ = false
 
 -- The first capacity, or the second one if there is no first.
 abbrev pub first_capacity : Option ℕ → Option ℕ → Option ℕ

@@ -10,6 +10,7 @@
 #![tactic(auto)]
 
 mod earliest_search;
+mod failures;
 pub mod laws;
 mod listing;
 mod overlapping_search;
@@ -17,6 +18,7 @@ mod regex;
 mod resizing;
 mod size;
 
-pub use regex::{GrowingRegex, LARGEST};
+pub use failures::lacks_memory;
+pub use regex::{GrowingRegex, LARGEST, largest_for};
 pub use resizing::shared;
 pub use size::Size;

@@ -8,7 +8,7 @@ ghost use Rattle.regex_pair.specs.Pairs.{AreCachesOf};
 ghost use Rattle.hir_regex.specs.declared.settings.Settings.{Settings};
 ghost use Rattle.hir_regex.specs.Built.{IsBuilt, FindsFirst};
 ghost use Rattle.growing_regex.specs.Earliest.{IsEarliestEnd, IsEarliestError, looks_by};
-ghost use Rattle.growing_regex.specs.Growing.{AddsBy, AnswersBy, AreGrown, ListsBy};
+ghost use Rattle.growing_regex.specs.Growing.{AddsBy, AnswersBy, AreGrown, ListsBy, largest_for};
 
 use crate::earliest_search::{end_of, search_counted, search_from};
 use crate::laws::calls_report_the_least_end;
@@ -26,6 +26,17 @@ use std::sync::ledger::Blank;
 
 /// The largest capacity in bytes to which caches are enlarged if nobody asks for another one: 256 MiB.
 pub const LARGEST: usize = 1 << 28;
+
+/// The largest capacity in bytes to which caches are enlarged if options set this capacity, or none. Caches of a capacity that is set are
+/// never enlarged, so it is 0 then.
+pub fn largest_for(set: Option<usize>) -> usize
+    ensures { result ≡ largest_for set }
+{
+    match set {
+        Some(_) => 0,
+        None => LARGEST,
+    }
+}
 
 /// A regex with its caches. If these are cleared too soon, it goes on with copies of its automata that have larger caches, up to a largest
 /// capacity. Nothing is parsed or compiled for that, and no answer depends on it. If memory doesn't suffice, the caches stay as they are.

@@ -5,10 +5,8 @@ ghost use Rattle.search_core.specs.Utf8.{IsValidText};
 ghost use Rattle.look_core.specs.Looks.{IsWordSet};
 ghost use Rattle.hir_core.specs.Facts.{LoopsRead, is_utf8_tree};
 ghost use Rattle.hir_core.specs.Tree.{Tree};
-ghost use Rattle.lazy_dfa.specs.Blanks.{FitsLedger};
 ghost use Rattle.regex_pair.specs.PairAnswers.{AnswersPair};
 ghost use Rattle.regex_pair.specs.Pairs.{AreCachesOf, PairGrowsOrClears};
-ghost use Rattle.regex_pair.specs.StepSearches.{SearchesUncounted};
 ghost use Rattle.hir_regex.specs.declared.settings.Settings.{Settings};
 ghost use Rattle.hir_regex.specs.BrokenText.{first_broken};
 ghost use Rattle.hir_regex.specs.Built.{IsBuilt, FindsFirst};
@@ -16,11 +14,8 @@ ghost use Rattle.hir_regex.specs.Headline.{answer_to};
 ghost use Rattle.hir_regex.specs.Regexes.{IsSearchOf};
 
 use hir_core::Hir;
-use lazy_dfa::Work;
-use regex_pair::regex::{Cache, Regex};
+use regex_pair::regex::{Cache, Regex, search_once};
 use search_types::{Input, Match, MatchError};
-use std::marker::Brand;
-use std::sync::ledger::{Blank, Ledger};
 
 /// How many bytes of the haystack are UTF-8 from its start on, or `None` if all are.
 #[tactic(auto, using(crate::proofs::BrokenTextLemmas::whole_text, crate::proofs::BrokenTextLemmas::broken_text))]
@@ -74,23 +69,6 @@ pub fn is_search_of(trees: &[Hir], utf8: bool, input: &Input<'_>) -> bool
     is_text(h)
 }
 
-/// A search, with a count of its work that is made for it.
-fn search_counted<L: Ledger, M: Ledger>(
-    re: &Regex,
-    cache: &mut Cache,
-    input: &Input<'_>,
-    first: Blank,
-    second: Blank,
-) -> Result<Option<Match>, MatchError>
-    requires own { AreCachesOf re.now cache.old }
-    requires first { FitsLedger first.name first.parts L.name L.parts }
-    requires second { FitsLedger second.name second.parts M.name M.parts }
-    ensures { SearchesUncounted re.now input.now cache.old cache.new result }
-{
-    let mut work = Work::<L, M>::new(first, second);
-    re.try_search(cache, input, &mut work)
-}
-
 /// One search, with the errors of [`Regex::try_search`]. Suppose that the regex is built of trees and finds the leftmost-first
 /// match, and that the search is one of the laws' ([`is_search_of`], [`all_loops_read`](crate::all_loops_read)). Then an answer
 /// is the one that the trees define. If the span's start is after its end, the search returns `Ok(None)` and leaves the caches as
@@ -104,9 +82,7 @@ pub fn find(re: &Regex, cache: &mut Cache, input: &Input<'_>) -> Result<Option<M
         All LoopsRead xs → (words : ℕ → Bool) → IsWordSet words → IfOk result (λ o. o ≡ answer_to words xs s input.now) }
     ensures kept { PairGrowsOrClears re.now cache.old cache.new }
 {
-    let first = Blank::new(1);
-    let second = Blank::new(1);
-    match search_counted::<Brand, Brand>(re, cache, input, first, second) {
+    match search_once(re, cache, input) {
         Ok(found) => Ok(found),
         Err(e) => Err(e),
     }

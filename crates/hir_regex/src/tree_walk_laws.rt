@@ -11,7 +11,7 @@
 //!     built_automata_are_walked();
 //! }
 //! ```
-ghost use Rattle.std.specs.Prelude.{◌≡◌, ◌⊎◌, ℕ, ◌<◌, ◌↔◌, Bool, true, false, List, [], length, slice_get, Some, None, Ok};
+ghost use Rattle.std.specs.Prelude.{◌≡◌, ◌⊎◌, ℕ, ◌<◌, ◌↔◌, Bool, true, false, List, [], length, slice_get, None, Ok};
 ghost use Rattle.search_core.specs.ByteSets.{has};
 ghost use Rattle.look_core.specs.Looks.{IsWordSet};
 ghost use Rattle.look_core.specs.Terminators.{Terminator};

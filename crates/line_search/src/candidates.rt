@@ -1,5 +1,5 @@
 //! The lines of a block that may have a match.
-ghost use Rattle.std.specs.Prelude.{◌≡◌, ◌==◌, ◌&&◌, ◌||◌, ◌≤◌, ◌<◌, ◌-◌, ◌∷◌, ℕ, Bool, List, [], length, map, option_map, slice_get};
+ghost use Rattle.std.specs.Prelude.{◌≡◌, ◌==◌, ◌&&◌, ◌||◌, ◌≤◌, ◌<◌, ◌-◌, ◌∷◌, ℕ, Bool, List, [], length, option_map, slice_get};
 ghost use Rattle.std.specs.Prelude.{is_some, not, slice_range};
 ghost use Rattle.std.specs.Prelude.{true, Option, Some, IfErr, IfOk, IfSome, false};
 ghost use Rattle.hir_core.specs.Tree.{Tree};

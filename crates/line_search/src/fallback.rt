@@ -12,9 +12,6 @@ use regex_hir::Hir;
 use regex_meta::Program;
 use std::alloc::{AllocError, Global};
 
-/// The greatest size in bytes of a program for a line in which the automata gave up.
-pub(crate) const SIZE_LIMIT: usize = 1 << 34;
-
 /// The greatest size in bytes of a program that is compiled before the automata are. These take at most 60 MiB each, and patterns
 /// that need more are rejected.
 pub(crate) const EARLY_SIZE_LIMIT: usize = 1 << 25;

@@ -15,16 +15,17 @@ use crate::line_patterns::LinePatterns;
 use crate::literal_lines::{LiteralLines, line_end};
 use crate::regexes::search_of;
 use crate::replacing::Replaced;
-use crate::searcher::{SearcherError, search_from, span_of, spans_of};
+use crate::searcher::{SearcherError, span_of, spans_of};
 use crate::slow_search::SlowSearch;
 use crate::strings::{borrowed, strings_of};
-use growing_regex::GrowingRegex;
+use growing_regex::{GrowingRegex, lacks_memory};
 use hir_core::Hir;
 use hir_regex::headline::searches_answer_leftmost_whatever_the_loops;
 use hir_regex::see_bytes;
 use pattern_fallback::ends_at;
 use pattern_search::regex_laws::regexes_answer_what_patterns_say;
-use search_types::{Input, MatchError, MatchErrorKind, Span};
+use pattern_search::search_from;
+use search_types::{Input, Span};
 use std::alloc::Global;
 use std::marker::Model;
 use std::mem;
@@ -76,14 +77,6 @@ impl<'t> Model for Finder<'t> {
         × (f.candidates ≡ f.patterns.now)
         × IfSome f.literals (AreLiteralsOf f.patterns.now.0 f.patterns.now.1)
         × IfSome f.strings (HasStringsOf f.patterns.now.0 f.patterns.now.1) };
-}
-
-/// Whether a search failed because it ran out of memory.
-fn lacks_memory(error: &MatchError) -> bool {
-    match error.kind() {
-        MatchErrorKind::NoMemory => true,
-        _ => false,
-    }
 }
 
 impl<'t> Finder<'t> {

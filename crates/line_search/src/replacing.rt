@@ -1,5 +1,5 @@
 //! Replaces the matches of a line by what a template writes.
-ghost use Rattle.std.specs.Prelude.{◌≡◌, ◌≤◌, ◌<◌, ◌==◌, ◌+◌, ◌-◌, ◌*◌, ◌^◌, ◌∷◌, ◌++◌, [], ℕ, All, List, Some, IfOk, IfSome, OnOk, length, map, option_map, slice_range};
+ghost use Rattle.std.specs.Prelude.{◌≡◌, ◌≤◌, ◌<◌, ◌==◌, ◌+◌, ◌-◌, ◌*◌, ◌^◌, ◌∷◌, ◌++◌, [], All, List, Some, IfOk, IfSome, OnOk, length, map, option_map, slice_range};
 ghost use Rattle.regex_hir.specs.Re.{Re, accept, attempt};
 ghost use Rattle.regex_hir.specs.Find.{Match, find, find_after};
 ghost use Rattle.regex_meta.specs.Programs.{pattern_of};

@@ -1,11 +1,11 @@
 //! Searches of lines, and why none can be built.
-ghost use Rattle.std.specs.Prelude.{◌≡◌, ◌≤◌, IfOk, length, map, option_map};
-ghost use Rattle.pattern_search.specs.Searches.{span_of_found, whole_search};
+ghost use Rattle.std.specs.Prelude.{◌≡◌, IfOk, map, option_map};
+ghost use Rattle.pattern_search.specs.Searches.{span_of_found};
 ghost use Rattle.line_search.specs.LineMatchers.{span_pair};
 
 use lazy_dfa::BuildError;
 use pattern_search::PatternError;
-use search_types::{Input, Match, Span};
+use search_types::{Match, Span};
 use std::alloc::{AllocError, Global};
 
 /// Why no searcher can be built.
@@ -18,14 +18,6 @@ pub enum SearcherError {
     EmptyLoop(usize),
     /// No regex can be built from the tree of the patterns: it is too large, or memory ran out.
     Build(BuildError),
-}
-
-/// A search of the line from an offset on.
-pub(crate) fn search_from(line: &[u8], start: usize) -> Input<'_>
-    requires { start ≤ length line.now }
-    ensures { result ≡ whole_search line.now start }
-{
-    Input::new(line).range(start..line.len())
 }
 
 /// The span of a match.

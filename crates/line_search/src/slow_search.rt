@@ -5,11 +5,11 @@ ghost use Rattle.line_search.specs.FoundSpans.{IsFoundSpan};
 ghost use Rattle.line_search.specs.LineMatchers.{span_pair};
 ghost use Rattle.line_search.specs.Searchers.{AreReplaced, IsMatchReported, AreReported};
 
-use crate::fallback::{SIZE_LIMIT, program_of};
+use crate::fallback::program_of;
 use crate::fault::Fault;
 use crate::line_patterns::LinePatterns;
 use crate::replacing::{Replaced, replace_all};
-use pattern_fallback::{all_matches, find_from, has_one};
+use pattern_fallback::{SIZE_LIMIT, all_matches, find_from, has_one};
 use regex_meta::{Program, Searcher};
 use search_types::Span;
 use std::alloc::Global;

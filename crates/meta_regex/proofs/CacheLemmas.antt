@@ -4,11 +4,10 @@ use Rattle.regex_syntax.specs.declared.Config.{Config}
 use Rattle.search_types.specs.declared.match_kind.MatchKind.{MatchKind}
 use Rattle.search_types.specs.declared.match_kind.MatchKind.TheVariants.{All as AllMatches, LeftmostFirst}
 use Rattle.regex_pair.specs.Pairs.{Pair}
-use Rattle.growing_regex.specs.Growing.{AreGrown, Growing, sized_settings}
+use Rattle.growing_regex.specs.Growing.{AreGrown, Growing, sized_settings, largest_for}
 use Rattle.meta_regex.specs.declared.cache.Cache.{Cache}
 use Rattle.meta_regex.specs.declared.options.Options.{Options}
 use Rattle.meta_regex.specs.Caches.{AreAutomataOf, AreReportersOf, AreWordlessAutomataOf, IsCacheOf, KeepsCapacity}
-use Rattle.meta_regex.specs.Options.{largest_capacity}
 use Rattle.meta_regex.specs.Regexes.{AreBuiltOf, AreReportedOf, RegexValue, config_by}
 use Rattle.meta_regex.specs.Wordless.{AreWordlessOf}
 
@@ -52,10 +51,10 @@ automata_kept v c g same it = record {
 }
 
 -- new caches are enlarged up to the largest capacity
-pub capacity_kept : (v : RegexValue) (o : Options) (g : Growing) (pair : Pair) (largest : ℕ) → o ≡ v.options → largest ≡ largest_capacity o →
+pub capacity_kept : (v : RegexValue) (o : Options) (g : Growing) (pair : Pair) (largest : ℕ) → o ≡ v.options → largest ≡ largest_for o.cache_capacity →
     g ≡ record { pair = pair; largest = largest } → KeepsCapacity v g
 capacity_kept v o g pair largest same kept is =
-    ap (λ (x : Growing). x.largest) is ∙ kept ∙ ap (λ (p : Options). largest_capacity p) same
+    ap (λ (x : Growing). x.largest) is ∙ kept ∙ ap (λ (p : Options). largest_for p.cache_capacity) same
 
 -- automata with caches of another capacity are of the same patterns
 pub built_grown : (config : Config) (texts : List (List ℕ)) (kind : MatchKind) (g : Growing) (p : Pair) → AreBuiltOf config texts kind g.pair →

@@ -2,16 +2,15 @@
 use Rattle.std.specs.Prelude.{◌≡◌, IfSome}
 use Rattle.search_types.specs.declared.match_kind.MatchKind.{MatchKind}
 use Rattle.search_types.specs.declared.match_kind.MatchKind.TheVariants.{All as AllMatches, LeftmostFirst}
-use Rattle.growing_regex.specs.Growing.{Growing}
+use Rattle.growing_regex.specs.Growing.{Growing, largest_for}
 use Rattle.meta_regex.specs.declared.cache.Cache.{Cache}
-use Rattle.meta_regex.specs.Options.{largest_capacity}
 use Rattle.meta_regex.specs.Regexes.{AreBuiltOf, AreReportedOf, RegexValue, config_by}
 use Rattle.meta_regex.specs.Fallbacks.{AreFallbacksOf}
 use Rattle.meta_regex.specs.Wordless.{AreWordlessOf}
 
 -- Caches are enlarged up to 256 MiB, and never if the options set a capacity.
 abbrev pub KeepsCapacity : RegexValue → Growing → Type 0
-KeepsCapacity v g = g.largest ≡ largest_capacity v.options
+KeepsCapacity v g = g.largest ≡ largest_for v.options.cache_capacity
 
 -- Automata that are built from trees of the patterns of the regex.
 unfoldable pub AreAutomataOf : RegexValue → Growing → Type 0

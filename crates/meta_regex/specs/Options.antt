@@ -1,11 +1,10 @@
 -- How the patterns of a regex are parsed, and how its automata are built.
-use Rattle.std.specs.Prelude.{ℕ, Option, Some, None, true}
+use Rattle.std.specs.Prelude.{Some, true}
 use Rattle.regex_syntax.specs.declared.Config.{Config}
 use Rattle.look_core.specs.Terminators.{one_of}
 use Rattle.search_types.specs.declared.match_kind.MatchKind.{MatchKind}
 use Rattle.lazy_dfa.specs.ConfigValue.{DfaOptions, no_dfa_options}
 use Rattle.hir_regex.specs.declared.settings.Settings.{Settings}
-use Rattle.growing_regex.specs.declared.regex.TheConstants.{LARGEST}
 use Rattle.meta_regex.specs.declared.options.Options.{Options}
 
 -- How the grammar parses the patterns.
@@ -31,11 +30,3 @@ settings_of o kind = record {
   size_limit = o.size_limit;
   dfa = dfa_options_of o kind;
 }
-
--- The largest capacity in bytes to which caches are enlarged: 256 MiB if no capacity is set. If one is, it is never exceeded.
-abbrev pub largest_for : Option ℕ → ℕ
-largest_for None = LARGEST
-largest_for (Some bytes) = 0
-
-abbrev pub largest_capacity : Options → ℕ
-largest_capacity o = largest_for o.cache_capacity

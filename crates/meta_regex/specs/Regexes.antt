@@ -176,7 +176,7 @@ pub record AreFirstOfAll (config : Config) (texts : List (List ℕ)) (h : List �
 abbrev pub AreWhich : Config → List (List ℕ) → List ℕ → List Bool → Type 0
 AreWhich config texts h reported = (res : List Re) → AreReadAs config texts res → reported ≡ which_match config.utf8 res h
 
--- What a call returns that says this.
+-- A call returns such a report, or the error of a search.
 pub record SaysWhich (config : Config) (texts : List (List ℕ)) (h : List ℕ) (result : Result (Vec Bool Global) SearchError) : Type 0 where
   pub reported : IfOk result (λ reported. AreWhich config texts h reported.items)
   pub refused : IfErr result (IsSearchError config h)

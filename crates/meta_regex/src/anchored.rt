@@ -9,10 +9,10 @@ ghost use Rattle.meta_regex.specs.Starts.{NoneStartsAt, SeeksFrom, StepsFrom, Tr
 use crate::cache::Cache;
 use crate::compiled::Regex;
 use crate::found_match::FoundMatch;
-use crate::searching::see_bytes;
 use hir_regex::headline::{
     searches_answer_leftmost_whatever_the_loops, searches_answer_what_trees_define,
 };
+use hir_regex::see_bytes;
 use search_types::{Anchored, Input, Match};
 
 /// A match that is found by a try at a literal saves as much as a search of this many bytes costs. The literal costs a little more, so tries

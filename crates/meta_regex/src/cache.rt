@@ -11,7 +11,7 @@ use crate::errors::SearchError;
 use crate::fallback::{Fallbacks, fallbacks_of};
 use crate::texts::borrowed;
 use crate::wordless::wordless_pair;
-use growing_regex::{GrowingRegex, shared};
+use growing_regex::{GrowingRegex, largest_for, shared};
 use literal_search::Effort;
 use search_types::MatchKind;
 use std::alloc::{AllocError, Global};
@@ -79,7 +79,7 @@ impl Regex {
         ensures { IfOk result (IsCacheOf self.now) }
     {
         let pair = self.pair()?;
-        let automata = GrowingRegex::new(alloc, pair, self.options().largest_capacity())?;
+        let automata = GrowingRegex::new(alloc, pair, largest_for(self.options().cache_capacity))?;
         Ok(Cache {
             automata,
             overlapping: None,
@@ -98,7 +98,7 @@ impl Regex {
         let Ok(regex) = shared(alloc, pair) else {
             return None;
         };
-        match GrowingRegex::new(alloc, regex, self.options().largest_capacity()) {
+        match GrowingRegex::new(alloc, regex, largest_for(self.options().cache_capacity)) {
             Ok(growing) => Some(growing),
             Err(_) => None,
         }

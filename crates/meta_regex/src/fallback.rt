@@ -12,13 +12,10 @@ ghost use Rattle.meta_regex.specs.Fallbacks.{AreFallbacksFor, AreFallbacksOf, Is
 use crate::errors::SearchError;
 use crate::found_match::FoundMatch;
 use crate::texts::borrowed;
-use pattern_fallback::{ProgramError, find_from, has_one, number_at, parse_all};
+use pattern_fallback::{ProgramError, SIZE_LIMIT, find_from, has_one, number_at, parse_all};
 use pattern_text::Config;
 use regex_meta::{Program, Searcher};
 use std::alloc::{AllocError, Global};
-
-/// The greatest size of a program in bytes.
-const SIZE_LIMIT: usize = 1 << 34;
 
 /// A program for all patterns and, if there are several, one for each of them.
 #[derive(Drop)]

@@ -1,5 +1,5 @@
 //! All matches of a haystack.
-ghost use Rattle.std.specs.Prelude.{◌≡◌, ◌≤◌, ◌==◌, IfErr, IfOk, length, slice_set, true};
+ghost use Rattle.std.specs.Prelude.{◌≡◌, ◌==◌, IfErr, IfOk, slice_set, true};
 ghost use Rattle.regex_hir.specs.Text.{is_some_and};
 ghost use Rattle.search_core.specs.Utf8.{IsValidText};
 ghost use Rattle.meta_regex.specs.Caches.{IsCacheOf};

@@ -1,5 +1,5 @@
 //! Which patterns match.
-ghost use Rattle.std.specs.Prelude.{◌≡◌, IfErr, IfOk, IfSome, length, map, replicate, slice_set, false, true};
+ghost use Rattle.std.specs.Prelude.{◌≡◌, IfErr, IfOk, IfSome, length, map, replicate, slice_set, true};
 ghost use Rattle.search_core.specs.Utf8.{IsValidText};
 ghost use Rattle.meta_regex.specs.declared.errors.SearchError.TheVariants.{NoMemory as NoneFree};
 ghost use Rattle.meta_regex.specs.Caches.{IsCacheOf};

@@ -1,8 +1,7 @@
 //! How a regex is made, and how its caches behave.
 ghost use Rattle.std.specs.Prelude.{◌≡◌};
-ghost use Rattle.meta_regex.specs.Options.{dfa_options_of, largest_capacity, settings_of};
+ghost use Rattle.meta_regex.specs.Options.{dfa_options_of, settings_of};
 
-use growing_regex::LARGEST;
 use hir_regex::Settings;
 use lazy_dfa::dfa;
 use pattern_text::Config;
@@ -41,16 +40,6 @@ impl Options {
         match self.cache_capacity {
             Some(capacity) => config.cache_capacity(capacity),
             None => config,
-        }
-    }
-
-    /// The largest capacity in bytes to which caches are enlarged. If a capacity is set, it is 0: then they are never enlarged.
-    pub(crate) fn largest_capacity(&self) -> usize
-        ensures { result ≡ largest_capacity self.now }
-    {
-        match self.cache_capacity {
-            Some(_) => 0,
-            None => LARGEST,
         }
     }
 

@@ -6,11 +6,12 @@ ghost use Rattle.search_types.specs.declared.match_kind.MatchKind.TheVariants.{A
 ghost use Rattle.meta_regex.specs.Regexes.{AreBuiltOf, AreWhich};
 ghost use Rattle.meta_regex.specs.Wordless.{AreWordlessOf, MayMatch};
 
-use crate::searching::{search_from, see_bytes};
 use growing_regex::GrowingRegex;
+use hir_regex::see_bytes;
 use hir_regex::tree_walk_laws::{built_automata_are_walked, sets_get_the_patterns_of_spans};
 use line_trees::laws::a_wordless_tree_matches_as_much;
 use pattern_search::regex_laws::overlapping_searches_find_which_texts_match;
+use pattern_search::search_from;
 use search_core::PatternID;
 use search_types::{MatchError, PatternSet};
 use std::alloc::{AllocError, Global};

@@ -11,7 +11,7 @@ ghost use Rattle.hir_core.specs.Tree.{Tree};
 ghost use Rattle.meta_regex.specs.Parts.{AreDecided, AreParts, AllowsMore, IsReadWithin, ReadsAll, ReadsLiteral, ReadsOneOf, ReadsPart, ReadsRounds, IsStretch};
 
 use crate::runs::{Run, skip_members, stands_at};
-use crate::searching::see_bytes;
+use hir_regex::see_bytes;
 
 /// A part of a pattern.
 #[derive(Drop)]

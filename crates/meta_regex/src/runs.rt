@@ -7,15 +7,14 @@
 ghost use Rattle.std.specs.Prelude.{◌≡◌, ◌<◌, ◌≤◌, ℕ, false, get_or, IfSome, length, not, true};
 ghost use Rattle.search_core.specs.ByteSets.{has};
 ghost use Rattle.hir_core.specs.Tree.{Tree};
-ghost use Rattle.meta_regex.specs.CharRounds.{AreCharsOf};
 ghost use Rattle.meta_regex.specs.FirstBytes.{may_begin};
 ghost use Rattle.meta_regex.specs.Runs.{AreRoundsOf, IsNextRun, IsRunOf, IsRunOfTrees, has_byte};
 
 use crate::char_rounds::{chars_of, rounds_from};
 use crate::first_bytes::{has_byte, has_char, may_be_empty, may_begin};
 use crate::rounds::rounds_of;
-use crate::searching::see_bytes;
 use hir_core::{Hir, HirKind};
+use hir_regex::see_bytes;
 use search_core::ByteSet;
 use std::alloc::Global;
 

@@ -2,7 +2,6 @@
 ghost use Rattle.std.specs.Prelude.{◌≡◌, ◌≤◌, IfErr, IfOk, IfSome, length, option_map, true};
 ghost use Rattle.regex_syntax.specs.declared.Config.{Config as TextConfig};
 ghost use Rattle.search_core.specs.Utf8.{IsValidText};
-ghost use Rattle.pattern_search.specs.Searches.{whole_search};
 ghost use Rattle.meta_regex.specs.Caches.{IsCacheOf};
 ghost use Rattle.meta_regex.specs.Starts.{SeeksFrom, StepsFrom, sought_of};
 ghost use Rattle.meta_regex.specs.Wordless.{MayBeginAt};
@@ -16,18 +15,12 @@ use crate::fallback::find_match;
 use crate::found_match::FoundMatch;
 use crate::runs::NextRun;
 use crate::wordless::least_start;
-pub(crate) use hir_regex::see_bytes;
+use growing_regex::lacks_memory;
+use hir_regex::see_bytes;
 use pattern_search::regex_laws::regexes_answer_what_is_written;
-use search_types::{Input, Match, MatchError, MatchErrorKind};
+use pattern_search::search_from;
+use search_types::{Match, MatchError};
 use std::alloc::Global;
-
-/// A search of the haystack from an offset on.
-pub(crate) fn search_from(haystack: &[u8], from: usize) -> Input<'_>
-    requires { from ≤ length haystack.now }
-    ensures { result ≡ whole_search haystack.now from }
-{
-    Input::new(haystack).range(from..haystack.len())
-}
 
 /// Converts a match to three numbers.
 fn row(found: Option<Match>) -> Option<FoundMatch>
@@ -79,14 +72,6 @@ fn searched_len(
         Ok(Some(it)) => it.end.saturating_sub(start),
         Ok(None) => haystack.len().saturating_sub(start),
         Err(_) => 0,
-    }
-}
-
-/// Whether a search failed because it ran out of memory.
-fn lacks_memory(error: &MatchError) -> bool {
-    match error.kind() {
-        MatchErrorKind::NoMemory => true,
-        _ => false,
     }
 }
 

@@ -14,7 +14,7 @@ ghost use Rattle.meta_regex.specs.Sequences.{IsAttempt, IsAttemptWithin, IsLastS
 
 use crate::parts::{Part, Read, read_part, read_parts};
 use crate::runs::{NextRun, stands_at};
-use crate::searching::see_bytes;
+use hir_regex::see_bytes;
 use literal_search::{CandidateFinder, Effort};
 use search_core::ByteSet;
 

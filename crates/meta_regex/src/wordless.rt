@@ -9,14 +9,13 @@ ghost use Rattle.meta_regex.specs.Options.{config_of};
 ghost use Rattle.meta_regex.specs.Wordless.{AreWordlessOf, MayBeginAt};
 
 use crate::options::Options;
-use crate::searching::{search_from, see_bytes};
 use growing_regex::GrowingRegex;
 use hir_core::Hir;
 use hir_regex::headline::searches_answer_leftmost_whatever_the_loops;
-use hir_regex::{Settings, build};
+use hir_regex::{Settings, build, see_bytes};
 use line_trees::all_wordless_trees;
 use line_trees::laws::a_wordless_tree_matches_as_much;
-use pattern_search::parse_all;
+use pattern_search::{parse_all, search_from};
 use regex_pair::regex::Regex;
 use search_types::{Match, MatchError, MatchKind};
 use std::alloc::Global;

@@ -13,5 +13,5 @@ mod searching;
 
 pub use numbers::number_at;
 pub use parsing::{Alternatives, parse_all};
-pub use programs::ProgramError;
+pub use programs::{ProgramError, SIZE_LIMIT};
 pub use searching::{all_matches, ends_at, find_from, has_one};

@@ -12,6 +12,9 @@ use regex_hir::Hir;
 use regex_meta::Program;
 use std::alloc::{AllocError, Global};
 
+/// The greatest size in bytes of a program for what automata gave up on.
+pub const SIZE_LIMIT: usize = 1 << 34;
+
 /// Why there is no program.
 #[derive(Clone, Copy, Debug, PartialEq, Eq)]
 pub enum ProgramError {

@@ -4,7 +4,7 @@ ghost use Rattle.std.specs.Iterator.{at_most};
 ghost use Rattle.search_types.specs.AllAnswers.{is_repeat};
 ghost use Rattle.search_types.specs.Inputs.{IsSpanOf};
 ghost use Rattle.lazy_dfa.specs.Blanks.{FitsLedger};
-ghost use Rattle.regex_pair.specs.Finding.{finding_all, search_at, IsNextAnswer, IsPositioned, KeepsTwice};
+ghost use Rattle.regex_pair.specs.Finding.{finding_all, search_at, IsNextAnswer, KeepsTwice};
 ghost use Rattle.regex_pair.specs.FindSteps.{searches_by, finds_from, caches_of, borrow_name_of, items_left, MayGoOn, FindsNext};
 ghost use Rattle.regex_pair.specs.Pairs.{AreCachesOf};
 ghost use Rattle.regex_pair.specs.StepSearches.{SearchesNext, SearchesUncounted};
@@ -33,9 +33,10 @@ fn search_counted<L: Ledger, M: Ledger>(
     re.try_search(cache, input, &mut work)
 }
 
-/// A search whose work nobody counts.
+/// A search whose work nobody counts, with the errors of [`Regex::try_search`]. If the span's start is after its end, it returns `Ok(None)`
+/// and leaves the caches as they were.
 #[inline(always)]
-fn search_once(
+pub fn search_once(
     re: &Regex,
     cache: &mut Cache,
     input: &Input<'_>,

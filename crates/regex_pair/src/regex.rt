@@ -11,7 +11,7 @@ ghost use Rattle.regex_pair.specs.Pairs.{IsPair};
 
 pub use crate::builder::Builder;
 pub use crate::cache::Cache;
-pub use crate::find_matches::FindMatches;
+pub use crate::find_matches::{FindMatches, search_once};
 use lazy_dfa::dfa::DFA;
 use std::marker::Model;
 

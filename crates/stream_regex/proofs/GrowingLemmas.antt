@@ -7,7 +7,8 @@ use Rattle.lazy_dfa.specs.Dfas.{Dfa}
 use Rattle.regex_pair.specs.Pairs.{back_options}
 use Rattle.hir_regex.proofs.ForCallers.{both_built, dfa_is, dfa_ok}
 use Rattle.streams.specs.Capacities.{without_capacity}
-use Rattle.stream_regex.specs.Capacities.{IsOrigin, largest_capacity}
+use Rattle.growing_regex.specs.Growing.{largest_for}
+use Rattle.stream_regex.specs.Capacities.{IsOrigin}
 use Rattle.stream_regex.specs.StreamRegexes.{IsStreamRegexOf, settings_of}
 use Rattle.stream_regex.specs.declared.options.Options.{Options}
 
@@ -49,10 +50,10 @@ module _ (o : Options) (texts : List (List ℕ)) (d : Dfa) (it : IsStreamRegexOf
   made_options = ap (λ (x : Dfa). x.options) made_is
 
   -- it is as it was built, and has the capacity of the options
-  pub origin_of : (largest : ℕ) → largest ≡ largest_capacity o.cache_capacity → IsOrigin d largest
+  pub origin_of : (largest : ℕ) → largest ≡ largest_for o.cache_capacity → IsOrigin d largest
   origin_of largest is = record {
     built = subst (λ (x : Dfa). x ≡ dfa_of x.nfa x.options) (sym it.forward)
         (made_is ∙ ap (λ (p : DfaOptions). dfa_of made.nfa p) (sym made_options));
-    largest_is = is ∙ ap (λ (p : DfaOptions). largest_capacity p.cache_capacity) (sym made_options)
-        ∙ ap (λ (x : Dfa). largest_capacity x.options.cache_capacity) (sym it.forward);
+    largest_is = is ∙ ap (λ (p : DfaOptions). largest_for p.cache_capacity) (sym made_options)
+        ∙ ap (λ (x : Dfa). largest_for x.options.cache_capacity) (sym it.forward);
   }

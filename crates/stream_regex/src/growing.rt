@@ -3,7 +3,8 @@ ghost use Rattle.std.specs.Prelude.{◌≡◌, ◌≤◌, ◌<◌, IfOk, IfSome}
 ghost use Rattle.std.specs.Option.{unwrap_or};
 ghost use Rattle.lazy_dfa.specs.Caches.{IsCacheOf};
 ghost use Rattle.streams.specs.Streams.{IsStreamOf};
-ghost use Rattle.stream_regex.specs.Capacities.{IsGrown, IsOrigin, largest_capacity, most_usage};
+ghost use Rattle.growing_regex.specs.Growing.{largest_for};
+ghost use Rattle.stream_regex.specs.Capacities.{IsGrown, IsOrigin, most_usage};
 ghost use Rattle.stream_regex.specs.Sets.{IsClosedIn, IsFedIn};
 
 use crate::calls::{close_in, feed_in};
@@ -108,7 +109,7 @@ impl GrowingDfa {
     /// A copy of the automaton that has a cache of this capacity in bytes, if memory suffices.
     fn copied(&self, capacity: usize) -> Option<DFA>
         requires some { 0 < capacity }
-        requires within { capacity ≤ largest_capacity self.now.options.cache_capacity }
+        requires within { capacity ≤ largest_for self.now.options.cache_capacity }
         ensures { IfSome result (IsGrown self.now) }
     {
         let Some(copy) = resized(self.alloc, self.origin.automaton(), capacity) else {

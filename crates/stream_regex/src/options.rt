@@ -1,9 +1,7 @@
 //! How patterns are searched for in pieces.
 ghost use Rattle.std.specs.Prelude.{◌≡◌};
-ghost use Rattle.stream_regex.specs.Capacities.{largest_capacity};
 ghost use Rattle.stream_regex.specs.StreamRegexes.{dfa_options_of, settings_of};
 
-use growing_regex::LARGEST;
 use hir_regex::Settings;
 use lazy_dfa::dfa;
 use pattern_text::Config;
@@ -51,16 +49,6 @@ impl Options {
             size_limit: self.size_limit,
             dfa: self.dfa(),
             ..Settings::new()
-        }
-    }
-
-    /// The largest capacity in bytes to which the cache of a set is enlarged: 256 MiB. 0, so that it is never enlarged, if one is set.
-    pub(crate) fn largest_capacity(&self) -> usize
-        ensures { result ≡ largest_capacity self.now.cache_capacity }
-    {
-        match self.cache_capacity {
-            Some(_) => 0,
-            None => LARGEST,
         }
     }
 }

@@ -8,6 +8,7 @@ use crate::errors::NewError;
 use crate::growing::GrowingDfa;
 use crate::options::Options;
 use crate::regex::StreamRegex;
+use growing_regex::largest_for;
 use std::alloc::{AllocError, Global};
 use std::marker::Model;
 use streams::Stream;
@@ -66,7 +67,12 @@ impl StreamSet {
             Ok(regex) => regex,
             Err(e) => return Err(e),
         };
-        match set_of(alloc, regex, options.largest_capacity(), options.lines) {
+        match set_of(
+            alloc,
+            regex,
+            largest_for(options.cache_capacity),
+            options.lines,
+        ) {
             Ok(set) => Ok(set),
             Err(_) => Err(NewError::NoMemory),
         }

@@ -12,8 +12,8 @@ returns c =
       automata = automata_of v c.in_ok-automata.automata
           (subst (λ (g : Growing). AreReportedOf (config_by v) v.texts LeftmostFirst v.loops g.pair) (sym c.in_ok-automata.ensures)
           c.in_ok-pair.ensures)
-          (capacity_kept v c.options.result c.in_ok-automata.automata c.in_ok-pair.pair.value c.largest_capacity.result c.options.ensures
-          c.largest_capacity.ensures c.in_ok-automata.ensures);
+          (capacity_kept v c.options.result c.in_ok-automata.automata c.in_ok-pair.pair.value c.largest_for.result c.options.ensures
+          c.largest_for.ensures c.in_ok-automata.ensures);
       overlapping = tt;
       fallbacks = tt;
       wordless = tt;

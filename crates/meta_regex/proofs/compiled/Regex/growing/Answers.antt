@@ -8,5 +8,5 @@ returns-in-Ok-new-clause-same c = ap (λ (g : Growing). g.pair) c.in-Ok-new.ensu
 
 pub returns-in-Ok-new-clause-capacity : goal.returns-in-Ok-new-clause-capacity
 returns-in-Ok-new-clause-capacity c =
-    capacity_kept c.args.self.now c.options.result c.in-Ok-new.growing c.in-Ok.regex.value c.largest_capacity.result c.options.ensures
-    c.largest_capacity.ensures c.in-Ok-new.ensures
+    capacity_kept c.args.self.now c.options.result c.in-Ok-new.growing c.in-Ok.regex.value c.largest_for.result c.options.ensures
+    c.largest_for.ensures c.in-Ok-new.ensures

@@ -3,4 +3,4 @@ use Rattle.stream_regex.proofs.set.StreamSet.new.Goals as goal
 
 pub set_of-requires : goal.set_of-requires
 set_of-requires c =
-    origin_of c.args.options.now _ c.in-Ok.regex c.in-Ok.ensures.made c.largest_capacity.result c.largest_capacity.ensures
+    origin_of c.args.options.now _ c.in-Ok.regex c.in-Ok.ensures.made c.largest_for.result c.largest_for.ensures

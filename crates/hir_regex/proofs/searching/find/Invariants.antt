@@ -1,7 +1,0 @@
-use Rattle.hir_regex.proofs.searching.find.Given as goal
-
-abbrev pub ghosts-search_counted-L-Ledger : goal.ghosts-search_counted-L-Ledger
-ghosts-search_counted-L-Ledger a = record { name = a.first.name; parts = a.first.parts }
-
-abbrev pub ghosts-search_counted-M-Ledger : goal.ghosts-search_counted-M-Ledger
-ghosts-search_counted-M-Ledger a = record { name = a.second.name; parts = a.second.parts }
