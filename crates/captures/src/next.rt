@@ -1,5 +1,5 @@
 //! Matches from an offset on, with their groups.
-ghost use Rattle.std.specs.Prelude.{◌≡◌, ◌<◌, ◌≤◌, ◌^◌, length, true};
+ghost use Rattle.std.specs.Prelude.{◌≡◌, ◌<◌, ◌≤◌, ◌^◌, true};
 ghost use Rattle.search_core.specs.Utf8.{IsValidText};
 ghost use Rattle.meta_regex.specs.Caches.{IsCacheOf};
 ghost use Rattle.meta_regex.specs.Regexes.{HasFoundSpan, config_by};

@@ -1,7 +1,6 @@
 //! Replacing matches.
 ghost use Rattle.std.specs.Prelude.{◌≡◌, ◌+◌, ◌*◌, ◌≤◌, ◌==◌, ◌++◌, ℕ, List, IfErr, IfOk, OnErr, OnOk, Some, if◌then◌else◌, length, min, slice_range, true};
 ghost use Rattle.std.specs.Prelude.{◌<◌, ◌^◌};
-ghost use Rattle.std.specs.Option.{unwrap_or};
 ghost use Rattle.regex_hir.specs.Re.{Re, accept, attempt};
 ghost use Rattle.regex_hir.specs.Meaning.{alt_all};
 ghost use Rattle.regex_hir.specs.Find.{Match};

@@ -1,5 +1,5 @@
 //! Splitting haystacks at matches.
-ghost use Rattle.std.specs.Prelude.{◌≡◌, ◌≢◌, Some, None, ◌<◌, ◌^◌, length, slice_set, true};
+ghost use Rattle.std.specs.Prelude.{◌≡◌, ◌≢◌, Some, None, ◌<◌, ◌^◌, slice_set, true};
 ghost use Rattle.search_core.specs.Utf8.{IsValidText};
 ghost use Rattle.meta_regex.specs.Caches.{IsCacheOf};
 ghost use Rattle.meta_regex.specs.Regexes.{config_by};

@@ -1,10 +1,10 @@
 //! A compiled regex.
-ghost use Rattle.std.specs.Prelude.{◌≡◌, ◌≤◌, IfErr, IfNone, IfOk, length, map, replicate, true};
+ghost use Rattle.std.specs.Prelude.{◌≡◌, ◌≤◌, IfErr, IfNone, IfOk, length, map, replicate};
 ghost use Rattle.meta_regex.specs.Caches.{IsCacheOf};
 ghost use Rattle.meta_regex.specs.Regexes.{AreAll, AreFirstOfAll, FindsFrom, MarksWhich, ReportsAnyMatch};
 ghost use Rattle.meta_regex.specs.Lists.{ListsAll};
 ghost use Rattle.group_finder.specs.Slots.{no_offset};
-ghost use Rattle.captures.specs.Captures.{AreCaptured, AreFirstCaptured, HasCaptures};
+ghost use Rattle.captures.specs.Captures.{AreCaptured, AreFirstCaptured};
 ghost use Rattle.captures.specs.NextMatches.{AreNext, AreNextBegun, AreNextCaptured, IsFullOrLast};
 ghost use Rattle.meta_regex.specs.Regexes.{IsMadeOf as IsEngineMadeOf};
 ghost use Rattle.captures.specs.Groups.{AreGroupsOf};

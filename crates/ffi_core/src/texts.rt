@@ -1,5 +1,5 @@
 //! Patterns that are stored one after the other.
-ghost use Rattle.std.specs.Prelude.{◌≡◌, ◌≢◌, ◌<◌, ◌++◌, ◌∷◌, [], ℕ, Some, false, map, length, IfOk, IfErr, OnOk, take, drop};
+ghost use Rattle.std.specs.Prelude.{◌≡◌, ◌<◌, ◌++◌, ◌∷◌, [], ℕ, Some, false, map, length, IfOk, IfErr, OnOk};
 ghost use Rattle.meta_regex.specs.Regexes.{IsNoText};
 ghost use Rattle.ffi_core.specs.Compiled.{IsCallError, IsSplitError, are_arguments, do_lengths_fit};
 ghost use Rattle.ffi_core.specs.declared.failure.NewError.TheVariants.{BadArgument, NoMemory, NotUtf8};

@@ -1,5 +1,5 @@
 //! Processes the lines of blocks of an input.
-ghost use Rattle.std.specs.Prelude.{◌≡◌, ◌++◌, ◌∷◌, [], ℕ, ◌+◌, ◌≤◌, ◌==◌, List, None, OnOk, IfOk, drop, length, ◌<◌, ◌≢◌, take, true};
+ghost use Rattle.std.specs.Prelude.{◌≡◌, ◌++◌, ◌∷◌, ◌+◌, ◌≤◌, ◌==◌, List, None, OnOk, IfOk, drop, length, ◌<◌, true};
 ghost use Rattle.std.specs.List.{position};
 ghost use Rattle.grep_core.specs.Blocks.{KeepsOn, SearchesBy, ReportsUpTo, finds_by, reported_bytes, counts_lines};
 ghost use Rattle.line_search.specs.Candidates.{IsLineStart, IsNextLine};

@@ -1,6 +1,6 @@
 //! Prints the matches of long lines, or a long line for each of them, one after the other. So the memory doesn't grow with the number of
 //! matches in a line.
-ghost use Rattle.std.specs.Prelude.{◌≡◌, ◌++◌, ◌∷◌, ◌≤◌, [], ℕ, Bool, List, IfErr, IfOk, IsTrue, OnOk, false, length, map, nat_lt};
+ghost use Rattle.std.specs.Prelude.{◌≡◌, ◌++◌, ◌∷◌, [], ℕ, List, IfErr, IfOk, IsTrue, OnOk, false, length, nat_lt};
 ghost use Rattle.std.specs.Prelude.{option_map, take, true};
 ghost use Rattle.std.specs.List.{flat_map};
 ghost use Rattle.std.specs.Io.KnownBytes.{Appends};

@@ -1,12 +1,12 @@
 //! How a line is printed, in the format of GNU grep.
-ghost use Rattle.std.specs.Prelude.{◌≡◌, ◌<◌, ◌++◌, ◌+◌, ◌&&◌, ◌||◌, ◌∷◌, [], Some, codes, decimal, drop, is_some, length, map, nat_lt, option_map, slice_range, IfOk, OnOk};
+ghost use Rattle.std.specs.Prelude.{◌≡◌, ◌<◌, ◌++◌, ◌+◌, ◌&&◌, ◌||◌, ◌∷◌, [], Some, codes, decimal, is_some, length, map, nat_lt, option_map, IfOk, OnOk};
 ghost use Rattle.std.specs.List.{flat_map};
 ghost use Rattle.grep_core.specs.Colors.{coloured};
 ghost use Rattle.grep_core.specs.Printing.{long_text, marked_line, name_before, preview_text, line_bytes, printed_line, text_line, group_line};
 ghost use Rattle.line_search.specs.LineMatchers.{span_pair};
 ghost use Rattle.grep_core.specs.Printing.{field, fields, if_asked, name_field, number_field, padded, separator, separator_line, tab};
 ghost use Rattle.grep_core.specs.Printing.{blanks, column_field, column_of, exceeds, first_column, has_marks, is_blank, is_long, left_out};
-ghost use Rattle.grep_core.specs.Printing.{line_text, match_text, moved, omission, omitted_line, omitted_text, printed_for, printed_once, printed_with};
+ghost use Rattle.grep_core.specs.Printing.{line_text, moved, omission, omitted_line, omitted_text, printed_for, printed_once, printed_with};
 ghost use Rattle.grep_core.specs.Printing.{shown_matches, shows_matches, trimmed};
 
 use crate::colors::{Colors, Part, code_of, line_part, match_part, push_marked, push_matches};

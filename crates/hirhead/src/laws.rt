@@ -1,5 +1,5 @@
 //! Laws of queries that are printed. The body of each function calls the laws on which its own rests, and does nothing.
-ghost use Rattle.std.specs.Prelude.{◌≡◌, ◌↔◌, ◌++◌, ℕ, Bool, List, IsTrue, length, map};
+ghost use Rattle.std.specs.Prelude.{◌↔◌, ◌++◌, ℕ, Bool, List, IsTrue, length, map};
 ghost use Rattle.regex_hir.specs.Re.{Re};
 ghost use Rattle.regex_syntax.specs.declared.Config.{Config};
 ghost use Rattle.hir_core.specs.Facts.{LoopsRead, is_utf8_tree};

@@ -1,4 +1,4 @@
-ghost use Rattle.std.specs.Prelude.{◌≡◌, ◌++◌, IfOk, IsCharBoundary, chars, codes, length, replicate, string_bytes};
+ghost use Rattle.std.specs.Prelude.{◌≡◌, IfOk, IsCharBoundary, chars, length, replicate, string_bytes};
 ghost use Rattle.hirhead.specs.Pointed.{IsLastLine, IsFirstLine, IsShown};
 
 use std::alloc::{AllocError, Global};

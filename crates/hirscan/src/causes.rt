@@ -2,7 +2,7 @@
 ghost use Rattle.std.specs.Prelude.{◌≡◌, IfOk, option_map, string_bytes};
 ghost use Rattle.hir_regex.specs.BrokenText.{first_broken};
 ghost use Rattle.hirscan.specs.QueryReports.{value_of_query};
-ghost use Rattle.hirscan.specs.Rejections.{first_not_utf8, where_utf8, span_of, is_span, pattern_causes, haystack_causes};
+ghost use Rattle.hirscan.specs.Rejections.{first_not_utf8, span_of, is_span, pattern_causes, haystack_causes};
 ghost use Rattle.hirscan.specs.Rejections.{rejection};
 
 use crate::head::Head;

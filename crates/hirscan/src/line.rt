@@ -1,5 +1,5 @@
 // One line: its words, the stack and the patterns before and after it.
-ghost use Rattle.std.specs.Prelude.{◌≡◌, ◌⊎◌, ◌<◌, ◌≤◌, true, false, IfOk, IfErr, OnOk, MatchOption, IsTrue, ℕ, length, Some, None, []};
+ghost use Rattle.std.specs.Prelude.{◌≡◌, ◌⊎◌, ◌<◌, ◌≤◌, true, false, IfOk, IfErr, OnOk, MatchOption, IsTrue, length, Some, None, []};
 ghost use Rattle.std.specs.Prelude.{◌∷◌, ◌++◌, nat_lt, take, slice_index_or};
 ghost use Rattle.hir_core.specs.Tree.{empty};
 ghost use Rattle.hir_core.specs.Facts.{height};

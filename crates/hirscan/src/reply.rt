@@ -1,5 +1,5 @@
 // The whole reply to an input, made before anything is written.
-ghost use Rattle.std.specs.Prelude.{◌≡◌, ◌++◌, ◌+◌, ◌<◌, ◌^◌, ◌≤◌, All, length, IfOk, IsTrue, MatchOption, OnOk, string_bytes};
+ghost use Rattle.std.specs.Prelude.{◌≡◌, ◌++◌, ◌+◌, ◌<◌, ◌≤◌, length, IfOk, IsTrue, MatchOption, OnOk, string_bytes};
 ghost use Rattle.hirscan.specs.Rejections.{span_of, is_span};
 ghost use Rattle.hirscan.specs.Asks.{asked_search};
 ghost use Rattle.hirscan.specs.QueryReports.{value_of_query};
@@ -7,7 +7,7 @@ ghost use Rattle.search_core.specs.Index.{greatest_index};
 ghost use Rattle.hir_regex.specs.Built.{IsBuilt, program_settings};
 ghost use Rattle.regex_pair.specs.Pairs.{AreCachesOf};
 ghost use Rattle.hirscan.specs.Listing.{IsSearched, MayEndList, ReportsQuit};
-ghost use Rattle.hirscan.specs.Reply.{IsReply, IsSearchReply, AnswersQuery, AreTooLarge, span_line, span_lines, quit_line, error_line};
+ghost use Rattle.hirscan.specs.Reply.{IsReply, IsSearchReply, AnswersQuery, AreTooLarge, span_line, quit_line, error_line};
 
 use crate::causes::refusal_cause;
 use crate::ending::Ending;

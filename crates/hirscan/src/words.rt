@@ -5,11 +5,11 @@ ghost use Rattle.std.specs.List.{list_all};
 ghost use Rattle.std.specs.Str.{bytes_eq};
 ghost use Rattle.hir_core.specs.Means.{is_member};
 ghost use Rattle.thompson_nfa.specs.LiteralGroups.{texts};
-ghost use Rattle.hirscan.specs.Words.{is_scalar, with_byte, with_range, is_covered, AreLowEnds, class_ranges, scalar_ranges};
+ghost use Rattle.hirscan.specs.Words.{with_byte, with_range, is_covered, AreLowEnds, class_ranges, scalar_ranges};
 ghost use Rattle.hirscan.specs.Readers.{line_word, setting_word, tree_word, number, bound, order, switch, yes_or_no, hex_bytes, hex_byte};
 ghost use Rattle.hirscan.specs.Readers.{item_ends, the_ends, hex_number, hex_ends, the_hex_ends, anchor_named, word_look_named};
 ghost use Rattle.hirscan.specs.Readers.{word_side_named, half_look_named, look_named, word_at};
-ghost use Rattle.hirscan.specs.LineFault.{unless_read, item_fault, scalar_item_fault, byte_fault, first_fault_of};
+ghost use Rattle.hirscan.specs.LineFault.{unless_read, item_fault, scalar_item_fault, first_fault_of};
 ghost use Rattle.hirscan.specs.QueryReports.{words_left, ReportsLineFault};
 ghost use Rattle.hirscan.specs.declared.fault.FaultKind.TheVariants.{BadHex};
 

@@ -1,5 +1,5 @@
 // What the client does: every clause names what the trees define.
-ghost use Rattle.std.specs.Prelude.{◌≡◌, ◌++◌, ◌∷◌, [], List, All, IfOk, OnOk, MatchOption};
+ghost use Rattle.std.specs.Prelude.{◌≡◌, ◌++◌, ◌∷◌, [], List, IfOk, OnOk, MatchOption};
 ghost use Rattle.hir_core.specs.Tree.{Tree};
 ghost use Rattle.regex_pair.specs.Pairs.{AreCachesOf};
 ghost use Rattle.hir_regex.specs.declared.settings.Settings.{Settings};

@@ -1,5 +1,5 @@
 //! The lines of a text that are printed as one event.
-ghost use Rattle.std.specs.Prelude.{◌≡◌, ◌<◌, ◌≤◌, ◌+◌, ◌∷◌, ◌&&◌, Bool, IfOk, false, length, true};
+ghost use Rattle.std.specs.Prelude.{◌≡◌, ◌<◌, ◌+◌, ◌∷◌, ◌&&◌, Bool, IfOk, false, length, true};
 ghost use Rattle.text_report.specs.EventCourse.{IsGroup, KnowsNext, TakesLines, group_of, groups_left, joins_lines, roles_left};
 ghost use Rattle.text_report.specs.LineSpans.{whole_end};
 ghost use Rattle.text_report.specs.TextEvents.{EventLines, is_selected, put_lines, starts_selected};

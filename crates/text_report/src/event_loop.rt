@@ -1,5 +1,5 @@
 //! The JSON events of a text, one after the other.
-ghost use Rattle.std.specs.Prelude.{◌≡◌, ◌<◌, ◌≤◌, ◌++◌, ℕ, [], IfErr, IfOk, List, OnOk, Option, length, map, true};
+ghost use Rattle.std.specs.Prelude.{◌≡◌, ◌<◌, ◌≤◌, ◌++◌, ℕ, IfErr, IfOk, List, OnOk, Option, length, map, true};
 ghost use Rattle.line_search.specs.LineMatchers.{span_pair};
 ghost use Rattle.line_search.specs.Searchers.{SearchesFor, found_by};
 ghost use Rattle.json_events.specs.declared.elapsed.Elapsed.{Elapsed as TheElapsed};

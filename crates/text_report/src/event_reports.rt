@@ -1,7 +1,6 @@
 //! The JSON events of a text in memory.
-ghost use Rattle.std.specs.Prelude.{◌≡◌, ◌+◌, ℕ, IfErr, IfOk, List, OnOk, Option, length, map, take, true};
+ghost use Rattle.std.specs.Prelude.{◌≡◌, ◌+◌, ℕ, IfErr, IfOk, List, OnOk, Option, length, take, true};
 ghost use Rattle.std.specs.Io.KnownBytes.{Appends};
-ghost use Rattle.line_search.specs.LineMatchers.{span_pair};
 ghost use Rattle.line_search.specs.Searchers.{SearchesFor, found_by};
 ghost use Rattle.grep_core.specs.Report.{first_of};
 ghost use Rattle.text_report.specs.Events.{ended_events, json_report, json_stats, printed, stats_of, tally};

@@ -1,5 +1,5 @@
 //! The lines of a text in memory, one after the other. Any byte ends them.
-ghost use Rattle.std.specs.Prelude.{◌≡◌, ◌==◌, ◌+◌, ◌≤◌, ◌<◌, [], IfNone, IfSome, IsTrue, drop, length};
+ghost use Rattle.std.specs.Prelude.{◌≡◌, ◌==◌, ◌+◌, ◌≤◌, ◌<◌, [], IfNone, IfSome, IsTrue, length};
 ghost use Rattle.std.specs.List.{position};
 ghost use Rattle.text_report.specs.LineSpans.{IsLineAt, lines_from, whole_end};
 

@@ -1,7 +1,6 @@
 //! The report of a text in memory, record by record.
-ghost use Rattle.std.specs.Prelude.{◌≡◌, ◌<◌, ◌≤◌, ℕ, [], List, OnOk, IfErr, IfOk, IsTrue, length, take};
-ghost use Rattle.std.specs.Io.KnownBytes.{Appends, Keeps};
-ghost use Rattle.line_search.specs.LineMatchers.{LineMatcher};
+ghost use Rattle.std.specs.Prelude.{◌≡◌, ◌<◌, ◌≤◌, ℕ, [], OnOk, IfErr, IfOk, length, take};
+ghost use Rattle.std.specs.Io.KnownBytes.{Appends};
 ghost use Rattle.line_search.specs.Searchers.{SearchesFor, found_by};
 ghost use Rattle.grep_core.specs.Blocks.{IsOver, KeepsOn, SearchesBy, counts_lines, finds_by, reported_bytes};
 ghost use Rattle.grep_core.specs.ContextPrinting.{Waits};

@@ -1,6 +1,5 @@
 //! What is printed for the lines of a text that come of some lines whose matches are replaced.
 ghost use Rattle.std.specs.Prelude.{◌≡◌, ◌++◌, ◌∷◌, ◌≤◌, ◌<◌, ◌+◌, ◌-◌, ◌&&◌, ◌||◌, [], Bool, IfOk, List, OnOk, length, not, true};
-ghost use Rattle.line_search.specs.LineMatchers.{span_pair};
 ghost use Rattle.line_search.specs.Lines.{TextLine};
 ghost use Rattle.grep_core.specs.ContextPrinting.{Item, Waits};
 ghost use Rattle.text_report.specs.LineSpans.{line_of, lines_from};

@@ -1,5 +1,5 @@
 //! Where parts of a text are after its matches were replaced.
-ghost use Rattle.std.specs.Prelude.{◌≡◌, ◌≤◌, ◌+◌, ◌-◌, drop, length, map, nat_le, slice_range, take, IfSome, OnOk, IfOk};
+ghost use Rattle.std.specs.Prelude.{◌≡◌, ◌≤◌, ◌+◌, ◌-◌, drop, length, map, nat_le, slice_range, take, IfOk};
 ghost use Rattle.std.specs.List.{position};
 ghost use Rattle.line_search.specs.LineMatchers.{span_pair};
 ghost use Rattle.text_report.specs.ReplacedText.{begun_before, end_of_first};

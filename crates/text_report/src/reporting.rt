@@ -1,5 +1,5 @@
 //! What is printed for a text whose matches may span lines.
-ghost use Rattle.std.specs.Prelude.{◌≡◌, ◌++◌, ◌∷◌, ◌<◌, ◌≤◌, [], ℕ, Bool, IfErr, IfOk, List, OnOk, false, length, map, take, true};
+ghost use Rattle.std.specs.Prelude.{◌≡◌, ◌++◌, ◌∷◌, ◌<◌, ◌≤◌, [], ℕ, IfErr, IfOk, List, OnOk, false, length, map, take, true};
 ghost use Rattle.std.specs.Io.KnownBytes.{Appends};
 ghost use Rattle.line_search.specs.LineMatchers.{span_pair};
 ghost use Rattle.line_search.specs.Lines.{TextLine};
@@ -8,7 +8,7 @@ ghost use Rattle.grep_core.specs.ContextPrinting.{Waits};
 ghost use Rattle.grep_core.specs.Report.{counted_as};
 ghost use Rattle.text_report.specs.LineSpans.{line_of};
 ghost use Rattle.text_report.specs.TextProgress.{LeavesLines, ReportsLines, WritesTextLines, WritesPrefix, count_left, matches_of_task, lines_left, reported_left};
-ghost use Rattle.text_report.specs.TextReports.{by_starts, counts_begun, text_item, report_as_it_is, report_found, selected_as_it_is, selected_in_found};
+ghost use Rattle.text_report.specs.TextReports.{by_starts, counts_begun, report_as_it_is, report_found, selected_as_it_is, selected_in_found};
 ghost use Rattle.text_report.specs.Touching.{AreBefore, StartInOrder, has_match_of, parts_in};
 
 use crate::lines::LineSpan;

@@ -1,5 +1,5 @@
 //! Which lines of a text a match touches, and the part of it that is in a line.
-ghost use Rattle.std.specs.Prelude.{◌≡◌, ◌++◌, ◌∷◌, ◌≤◌, [], ℕ, Bool, OnOk, drop, length, map};
+ghost use Rattle.std.specs.Prelude.{◌≡◌, ◌++◌, ◌∷◌, ◌≤◌, [], ℕ, Bool, OnOk, drop, map};
 ghost use Rattle.std.specs.List.{filter, list_any};
 ghost use Rattle.line_search.specs.LineMatchers.{span_pair};
 ghost use Rattle.text_report.specs.Touching.{StartInOrder, begins_between, counts_at, part_at, touches_at};

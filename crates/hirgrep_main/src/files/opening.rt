@@ -6,7 +6,6 @@ ghost use Rattle.line_search.specs.declared.fault.Fault.{Fault as TheFault};
 ghost use Rattle.json_events.specs.declared.stats.Stats.{Stats as TheStats};
 ghost use Rattle.grep_cli.specs.Counting.{counted};
 ghost use Rattle.hirgrep_main.specs.Decisions.{may_run_on};
-ghost use Rattle.grep_cli.specs.Selecting.{selection};
 ghost use Rattle.hirgrep_main.specs.Walking.{Tries};
 ghost use Rattle.hirgrep_main.specs.Outcomes.{Continues, after_search, with_failure, with_totals};
 ghost use Rattle.hirgrep_main.specs.Tasks.{count_of, patterns_by};

@@ -1,4 +1,4 @@
-ghost use Rattle.std.specs.Prelude.{IfOk, map};
+ghost use Rattle.std.specs.Prelude.{IfOk};
 ghost use Rattle.hir_regex.specs.Built.{IsBuilt, default_settings};
 
 use hir_core::Hir;

@@ -1,4 +1,3 @@
-ghost use Rattle.std.specs.Prelude.{◌≡◌};
 ghost use Rattle.regex_pair.specs.Pairs.{AreCachesOf};
 
 use hir_regex::find;

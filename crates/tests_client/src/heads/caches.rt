@@ -7,7 +7,7 @@ ghost use Rattle.search_types.specs.declared.match_kind.MatchKind.TheVariants.{A
 ghost use Rattle.nfa_core.specs.Nfa.{Automaton};
 ghost use Rattle.nfa_core.specs.Places.{same_pair};
 ghost use Rattle.nfa_core.specs.Walks.{HasNoneTwice};
-ghost use Rattle.lazy_dfa.specs.Accounting.{Measures, fresh_usage, state_cost, measured_usage};
+ghost use Rattle.lazy_dfa.specs.Accounting.{Measures, state_cost, measured_usage};
 ghost use Rattle.lazy_dfa.specs.Caches.{CacheValue, HeldAt, IsCacheOf, greatest, has_no_room};
 ghost use Rattle.lazy_dfa.specs.Changes.{Changes, IsMadeBy};
 ghost use Rattle.lazy_dfa.specs.Dfas.{Dfa};

@@ -4,7 +4,7 @@ ghost use Rattle.search_types.specs.Inputs.{Search};
 ghost use Rattle.regex_pair.specs.FindSteps.{finds_from};
 ghost use Rattle.regex_pair.specs.Finding.{finding_all};
 ghost use Rattle.regex_pair.specs.Joined.{joined};
-ghost use Rattle.regex_pair.specs.Pairs.{Pair, AreCachesOf};
+ghost use Rattle.regex_pair.specs.Pairs.{Pair};
 ghost use Rattle.regex_pair.specs.Taken.{AreTaken};
 ghost use Rattle.regex_pair.specs.declared.find_matches.FindMatches.{FindMatches};
 

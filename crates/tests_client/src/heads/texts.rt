@@ -1,6 +1,5 @@
-ghost use Rattle.std.specs.Prelude.{IfOk, IsTrue};
 ghost use Rattle.regex_hir.specs.Re.{Re};
-ghost use Rattle.hir_core.specs.Facts.{LoopsRead, is_utf8_tree};
+ghost use Rattle.hir_core.specs.Facts.{LoopsRead};
 ghost use Rattle.hir_core.specs.Tree.{Tree};
 ghost use Rattle.pattern_text.specs.SameEnds.{SameEnds, SameSpans};
 
