@@ -6,6 +6,7 @@ use Rattle.search_types.specs.declared.match_error.MatchErrorKind.TheVariants.{N
 use Rattle.search_types.specs.Found.{Found}
 use Rattle.search_types.specs.Inputs.{Search}
 use Rattle.lazy_dfa.specs.Caches.{CacheValue}
+use Rattle.lazy_dfa.specs.ConfigValue.{DfaOptions}
 use Rattle.lazy_dfa.specs.OverlappingAnswers.{AnswersWhich}
 use Rattle.regex_pair.specs.PairAnswers.{AnswersPair}
 use Rattle.regex_pair.specs.Pairs.{Pair, PairCache}
@@ -39,6 +40,10 @@ first_capacity None set = set
 -- These settings with caches of this capacity in bytes. If there is none, they stay as they are.
 abbrev pub sized_settings : Option ℕ → Settings → Settings
 sized_settings capacity s = record s { dfa = record s.dfa { cache_capacity = first_capacity capacity s.dfa.cache_capacity } }
+
+-- The second regex is built from the trees of the first one, with the same settings, but its automata have these options.
+abbrev pub IsBuiltWith : DfaOptions → Pair → Pair → Type 0
+IsBuiltWith o p q = (xs : List Tree) (s : Settings) → IsBuilt xs s p → IsBuilt xs (record s { dfa = o }) q
 
 -- The second regex is built from the trees of the first one, with the same settings, but with caches of this capacity.
 abbrev pub IsResized : ℕ → Pair → Pair → Type 0

@@ -20,5 +20,5 @@ mod size;
 
 pub use failures::lacks_memory;
 pub use regex::{GrowingRegex, LARGEST, largest_for};
-pub use resizing::shared;
+pub use resizing::{shared, with_options};
 pub use size::Size;

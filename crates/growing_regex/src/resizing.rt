@@ -1,7 +1,7 @@
-//! Copies of regexes with caches of another capacity.
+//! Copies of regexes with other options, such as another capacity of caches.
 ghost use Rattle.std.specs.Prelude.{◌≡◌, IfOk, IfSome, Some};
 ghost use Rattle.lazy_dfa.specs.Dfas.{IsDfa};
-ghost use Rattle.growing_regex.specs.Growing.{IsResized};
+ghost use Rattle.growing_regex.specs.Growing.{IsBuiltWith, IsResized};
 
 use lazy_dfa::dfa::Config;
 use regex_pair::regex::{Builder, Regex};
@@ -34,9 +34,9 @@ fn are_made(re: &Regex)
     re.reverse().is_made();
 }
 
-/// The regex of the same trees with caches of this capacity in bytes, if memory suffices. Its automata are copied, so nothing is compiled.
-fn resized_pair(alloc: Global, re: &Regex, capacity: usize) -> Option<Regex>
-    ensures { IfSome result (IsResized capacity re.now) }
+/// The regex of the same trees whose automata have these options, if there is one and memory suffices. They are copied, so nothing is compiled.
+pub fn with_options(alloc: Global, re: &Regex, options: Config) -> Option<Regex>
+    ensures { IfSome result (IsBuiltWith options re.now) }
 {
     let Ok(forward) = re.forward().get_nfa().try_clone(alloc) else {
         return None;
@@ -44,7 +44,7 @@ fn resized_pair(alloc: Global, re: &Regex, capacity: usize) -> Option<Regex>
     let Ok(reverse) = re.reverse().get_nfa().try_clone(alloc) else {
         return None;
     };
-    let builder = builder_with(options_of(re, capacity));
+    let builder = builder_with(options);
     let regex = match builder.build_from_nfas(forward, reverse) {
         Ok(regex) => regex,
         Err(_) => return None,
@@ -67,7 +67,7 @@ pub fn shared<T: Drop>(alloc: Global, value: T) -> Result<Arc<T>, AllocError>
 pub(crate) fn resized(alloc: Global, re: &Regex, capacity: usize) -> Option<Arc<Regex>>
     ensures { IfSome result (λ larger. IsResized capacity re.now larger.value) }
 {
-    let Some(regex) = resized_pair(alloc, re, capacity) else {
+    let Some(regex) = with_options(alloc, re, options_of(re, capacity)) else {
         return None;
     };
     match shared(alloc, regex) {

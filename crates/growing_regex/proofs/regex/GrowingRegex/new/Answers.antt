@@ -1,4 +1,4 @@
-use Rattle.std.proofs.Common.{subst, ◌∙◌}
+use Rattle.std.proofs.Common.{subst}
 use Rattle.regex_pair.specs.Pairs.{AreCachesOf, Pair}
 use Rattle.growing_regex.proofs.GrownLemmas.{as_made}
 use Rattle.growing_regex.proofs.regex.GrowingRegex.new.Goals as goal
