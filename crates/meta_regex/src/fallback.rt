@@ -1,6 +1,7 @@
 //! Searches haystacks in which the automata give up by the toolchain's programs of the same patterns.
 ghost use Rattle.std.specs.Prelude.{◌≡◌, ◌≤◌, ◌&&◌, ◌++◌, ◌∷◌, [], ℕ, List, Some, IfErr, IfOk, OnOk, is_some, length, map, slice_get, string_bytes};
 ghost use Rattle.regex.specs.Search.{leftmost_in};
+ghost use Rattle.regex_hir.specs.Meaning.{meaning};
 ghost use Rattle.regex_hir.specs.Re.{Re};
 ghost use Rattle.regex_meta.specs.Programs.{pattern_of};
 ghost use Rattle.regex_syntax.specs.Captures.{SameCaptures};
@@ -12,8 +13,11 @@ ghost use Rattle.meta_regex.specs.Fallbacks.{AreFallbacksFor, AreFallbacksOf, Is
 use crate::errors::SearchError;
 use crate::found_match::FoundMatch;
 use crate::texts::borrowed;
-use pattern_fallback::{ProgramError, SIZE_LIMIT, find_from, has_one, number_at, parse_all};
+use pattern_fallback::{
+    Alternatives, ProgramError, SIZE_LIMIT, find_from, has_one, number_at, parse_all,
+};
 use pattern_text::Config;
+use regex_hir::Hir;
 use regex_meta::{Program, Searcher};
 use std::alloc::{AllocError, Global};
 
@@ -24,15 +28,36 @@ pub(crate) struct Fallbacks {
     pub(crate) each: Vec<Box<Program>>,
 }
 
+fn push_copy(copies: &mut Vec<Hir>, copy: Hir) -> Result<(), AllocError>
+    ensures { OnOk result (copies.new.items ≡ copies.old.items ++ copy ∷ []) }
+{
+    copies.push(copy)?;
+    Ok(())
+}
+
+/// Copies of parsed patterns, which mean the same.
+fn copies_of(alloc: Global, hirs: &[Hir]) -> Result<Vec<Hir>, AllocError>
+    ensures { IfOk result (λ copies. map meaning copies.items ≡ map meaning hirs.now) }
+{
+    let mut copies = Vec::new(alloc);
+    for hir in hirs {
+        push_copy(&mut copies, hir.copy(alloc)?)?;
+    }
+    Ok(copies)
+}
+
 /// Compiles the programs of patterns.
 fn programs_of(alloc: Global, texts: &[&str], config: &Config) -> Result<Fallbacks, ProgramError>
     ensures { IfOk result (AreFallbacksOf config.now (map (λ t. t.now) texts.now)) }
 {
     let options = config.options();
     let parsed = parse_all(alloc, texts, &options)?;
+    let copies = Alternatives {
+        hirs: copies_of(alloc, &parsed.hirs)?,
+        groups: parsed.groups,
+    };
     let all = parsed.program(alloc, SIZE_LIMIT)?;
-    let again = parse_all(alloc, texts, &options)?;
-    let each = again.programs(alloc, SIZE_LIMIT)?;
+    let each = copies.programs(alloc, SIZE_LIMIT)?;
     Ok(Fallbacks { all, each })
 }
 
