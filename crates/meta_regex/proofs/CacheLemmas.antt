@@ -1,13 +1,19 @@
 -- What is known of a cache and its automata after a search.
-use Rattle.std.proofs.Common.{◌≡◌, ◌∙◌, ℕ, Bool, List, ap, sym, subst}
+use Rattle.std.proofs.Common.{◌≡◌, ◌∙◌, ℕ, Bool, List, Option, None, Some, ap, map, refl, sym, subst}
+use Rattle.std.specs.Prelude.{IfSome, Vec}
+use Rattle.std.specs.declared.alloc.Global.{Global}
 use Rattle.regex_syntax.specs.declared.Config.{Config}
+use Rattle.hir_core.specs.Tree.{Tree}
+use Rattle.line_trees.specs.WordlessTrees.{wordless_tree}
 use Rattle.search_types.specs.declared.match_kind.MatchKind.{MatchKind}
 use Rattle.search_types.specs.declared.match_kind.MatchKind.TheVariants.{All as AllMatches, LeftmostFirst}
 use Rattle.regex_pair.specs.Pairs.{Pair}
-use Rattle.growing_regex.specs.Growing.{AreGrown, Growing, sized_settings, largest_for}
+use Rattle.growing_regex.specs.Growing.{AreGrown, Growing, IsBuiltWith, sized_settings, largest_for}
+use Rattle.pattern_search.specs.Texts.{AllMean}
 use Rattle.meta_regex.specs.declared.cache.Cache.{Cache}
 use Rattle.meta_regex.specs.declared.options.Options.{Options}
 use Rattle.meta_regex.specs.Caches.{AreAutomataOf, AreReportersOf, AreWordlessAutomataOf, IsCacheOf, KeepsCapacity}
+use Rattle.meta_regex.specs.Options.{dfa_options_of}
 use Rattle.meta_regex.specs.Regexes.{AreBuiltOf, AreReportedOf, RegexValue, config_by}
 use Rattle.meta_regex.specs.Wordless.{AreWordlessOf}
 
@@ -56,6 +62,33 @@ pub capacity_kept : (v : RegexValue) (o : Options) (g : Growing) (pair : Pair) (
 capacity_kept v o g pair largest same kept is =
     ap (λ (x : Growing). x.largest) is ∙ kept ∙ ap (λ (p : Options). largest_for p.cache_capacity) same
 
+-- copies that find all matches are of the same patterns
+pub reporting : (config : Config) (texts : List (List ℕ)) (kind : MatchKind) (o : Options) (p q : Pair) → AreBuiltOf config texts kind p →
+    IsBuiltWith (dfa_options_of o AllMatches) p q → AreBuiltOf config texts AllMatches q
+reporting config texts kind o p q it copied = record {
+  trees = it.trees;
+  settings = record it.settings { dfa = dfa_options_of o AllMatches };
+  mean = it.mean;
+  built = copied it.trees it.settings it.built;
+  kind_is = refl;
+  lines = it.lines;
+  mode = it.mode;
+  utf8_trees = it.utf8_trees;
+}
+
+-- and so are those without looks at words
+pub reporting_wordless : (config : Config) (texts : List (List ℕ)) (kind : MatchKind) (o : Options) (p q : Pair) →
+    AreWordlessOf config texts kind p → IsBuiltWith (dfa_options_of o AllMatches) p q → AreWordlessOf config texts AllMatches q
+reporting_wordless config texts kind o p q it copied = record {
+  trees = it.trees;
+  settings = record it.settings { dfa = dfa_options_of o AllMatches };
+  mean = it.mean;
+  built = copied (map wordless_tree it.trees) it.settings it.built;
+  kind_is = refl;
+  lines = it.lines;
+  any_bytes = it.any_bytes;
+}
+
 -- automata with caches of another capacity are of the same patterns
 pub built_grown : (config : Config) (texts : List (List ℕ)) (kind : MatchKind) (g : Growing) (p : Pair) → AreBuiltOf config texts kind g.pair →
     AreGrown g p → AreBuiltOf config texts kind p
@@ -75,3 +108,9 @@ pub reported_grown : (config : Config) (texts : List (List ℕ)) (kind : MatchKi
     AreReportedOf config texts kind loops g.pair → AreGrown g p → AreReportedOf config texts kind loops p
 unfolding built_grown
 reported_grown config texts kind loops g p it grown = (built_grown config texts kind g p it.0 grown, it.1)
+
+-- trees that are kept mean the patterns
+pub kept_mean : (config : Config) (texts : List (List ℕ)) (xs : List Tree) (o : Option (Vec Tree Global)) → AllMean config texts xs →
+    IfSome o (λ kept. kept.items ≡ xs) → IfSome o (λ kept. AllMean config texts kept.items)
+kept_mean config texts xs None mean same = tt
+kept_mean config texts xs (Some kept) mean same = subst (AllMean config texts) (sym same) mean

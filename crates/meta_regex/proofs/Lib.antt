@@ -16,5 +16,6 @@ mod SplittingLemmas
 mod SequenceLemmas
 mod WayLemmas
 mod RunAnswerLemmas
+mod ThreadLemmas
 mod WordlessLemmas
 mod StartLemmas

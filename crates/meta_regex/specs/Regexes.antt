@@ -67,17 +67,13 @@ pub record IsMadeOf (o : Options) (texts : List (List ℕ)) (v : RegexValue) : T
   pub loops_told : (v.loops ≡ true) ↔ All LoopsRead trees
   pub loops_read : o.empty_loops ≡ false → v.loops ≡ true
 
--- Why no regex that finds matches of this kind is made from patterns under these options.
-abbrev pub IsKindError : MatchKind → Options → List (List ℕ) → NewError → Type 0
-IsKindError kind o texts NoMemory = ⊤
-IsKindError kind o texts (Text e) = IsFirstFault (config_of o) texts e.number e.error
-IsKindError kind o texts (EmptyLoop number) =
-    (o.empty_loops ≡ false) × ((xs : List Tree) × AllMean (config_of o) texts xs × (first_empty_loop xs ≡ Some number))
-IsKindError kind o texts (Build e) = (xs : List Tree) × AllMean (config_of o) texts xs × FailsBuild xs (settings_of o kind) e
-
 -- Why no regex is made from patterns under these options.
 abbrev pub IsNewError : Options → List (List ℕ) → NewError → Type 0
-IsNewError = IsKindError LeftmostFirst
+IsNewError o texts NoMemory = ⊤
+IsNewError o texts (Text e) = IsFirstFault (config_of o) texts e.number e.error
+IsNewError o texts (EmptyLoop number) =
+    (o.empty_loops ≡ false) × ((xs : List Tree) × AllMean (config_of o) texts xs × (first_empty_loop xs ≡ Some number))
+IsNewError o texts (Build e) = (xs : List Tree) × AllMean (config_of o) texts xs × FailsBuild xs (settings_of o LeftmostFirst) e
 
 -- There are such bytes, they aren't UTF-8, and this offset is the length of their valid prefix.
 abbrev pub IsNoText : Option (List ℕ) → ℕ → Type 0

@@ -3,7 +3,8 @@ ghost use Rattle.std.specs.Prelude.{◌≡◌, All, Some, false, true, IfErr, If
 ghost use Rattle.hir_core.specs.Facts.{LoopsRead};
 ghost use Rattle.hir_regex.specs.Loops.{first_empty_loop};
 ghost use Rattle.meta_regex.specs.Options.{config_of};
-ghost use Rattle.meta_regex.specs.Regexes.{AreReportedOf, IsKindError};
+ghost use Rattle.search_types.specs.declared.match_kind.MatchKind.TheVariants.{LeftmostFirst};
+ghost use Rattle.meta_regex.specs.Regexes.{AreReportedOf, IsNewError};
 ghost use Rattle.meta_regex.specs.Starts.{AreTreesOf};
 
 use crate::errors::NewError;
@@ -37,18 +38,17 @@ fn refused_loop(trees: &[Hir], options: &Options) -> Option<usize>
     }
 }
 
-/// Builds automata from patterns, which find matches of this kind.
+/// Builds automata from patterns, which find leftmost-first matches.
 pub(crate) fn build_pair(
     alloc: Global,
     texts: &[&str],
     options: &Options,
-    kind: MatchKind,
 ) -> Result<Built, NewError>
-    ensures made { IfOk result (λ b. (it : AreReportedOf (config_of options.now) (map (λ t. t.now) texts.now) kind b.loops b.pair)
+    ensures made { IfOk result (λ b. (it : AreReportedOf (config_of options.now) (map (λ t. t.now) texts.now) LeftmostFirst b.loops b.pair)
         ×
         (options.now.empty_loops ≡ false → b.loops ≡ true)) }
     ensures trees { IfOk result (λ b. AreTreesOf (config_of options.now) (map (λ t. t.now) texts.now) b.loops b.trees.items) }
-    ensures refused { IfErr result (IsKindError kind options.now (map (λ t. t.now) texts.now)) }
+    ensures refused { IfErr result (IsNewError options.now (map (λ t. t.now) texts.now)) }
 {
     let trees = match parse_all(alloc, texts, &options.syntax) {
         Ok(trees) => trees,
@@ -58,7 +58,7 @@ pub(crate) fn build_pair(
         return Err(NewError::EmptyLoop(number));
     }
     let loops = all_loops_read(&trees);
-    let settings = options.settings(kind);
+    let settings = options.settings(MatchKind::LeftmostFirst);
     let pair = match build(alloc, &trees, &settings) {
         Ok(pair) => pair,
         Err(e) => return Err(NewError::Build(e)),

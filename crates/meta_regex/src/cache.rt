@@ -1,17 +1,18 @@
 //! What searches change.
 ghost use Rattle.std.specs.Prelude.{◌≡◌, IfErr, IfOk, IfSome, ℕ, List};
 ghost use Rattle.regex_syntax.specs.declared.Config.{Config as TextConfig};
+ghost use Rattle.growing_regex.specs.Growing.{IsBuiltWith};
+ghost use Rattle.search_types.specs.declared.match_kind.MatchKind.TheVariants.{All as AllMatches, LeftmostFirst};
 ghost use Rattle.meta_regex.specs.Caches.{AreReportersOf, AreWordlessAutomataOf, IsCacheOf, KeepsCapacity};
 ghost use Rattle.meta_regex.specs.Fallbacks.{AreFallbacksOf};
+ghost use Rattle.meta_regex.specs.Options.{dfa_options_of};
 ghost use Rattle.meta_regex.specs.Regexes.{IsSearchError, config_by};
 
-use crate::building::build_pair;
 use crate::compiled::Regex;
 use crate::errors::SearchError;
 use crate::fallback::{Fallbacks, fallbacks_of};
-use crate::texts::borrowed;
 use crate::wordless::wordless_pair;
-use growing_regex::{GrowingRegex, largest_for, shared};
+use growing_regex::{GrowingRegex, largest_for, shared, with_options};
 use literal_search::Effort;
 use search_types::MatchKind;
 use std::alloc::{AllocError, Global};
@@ -104,36 +105,61 @@ impl Regex {
         }
     }
 
-    /// The automata that report which patterns match, if they can be made.
-    fn reporters(&self, alloc: Global) -> Option<GrowingRegex>
-        ensures { IfSome result (AreReportersOf self.now) }
+    /// Copies of these automata that find all matches, with empty caches, if they can be made. Nothing is compiled.
+    fn reporting(&self, alloc: Global, pair: &regex_pair::regex::Regex) -> Option<GrowingRegex>
+        ensures built { IfSome result (λ g. IsBuiltWith (dfa_options_of self.now.options AllMatches) pair.now g.pair) }
+        ensures capacity { IfSome result (KeepsCapacity self.now) }
     {
-        let texts = match borrowed(alloc, self.texts()) {
-            Ok(texts) => texts,
-            Err(_) => return None,
+        let Some(copies) = with_options(alloc, pair, self.options().dfa(MatchKind::All)) else {
+            return None;
         };
-        let built = match build_pair(alloc, &texts, &self.options(), MatchKind::All) {
-            Ok(built) => built,
-            Err(_) => return None,
-        };
-        match self.growing(alloc, built.pair) {
+        match self.growing(alloc, copies) {
             Some(automata) => Some(automata),
             None => None,
         }
     }
 
-    /// The automata of the patterns without their looks at words that find matches of this kind, if they can be made.
-    fn wordless_automata(&self, alloc: Global, kind: MatchKind) -> Option<GrowingRegex>
-        ensures { IfSome result (AreWordlessAutomataOf self.now kind) }
+    /// The automata that report which patterns match, if they can be made.
+    fn reporters(&self, alloc: Global) -> Option<GrowingRegex>
+        ensures { IfSome result (AreReportersOf self.now) }
     {
-        let texts = match borrowed(alloc, self.texts()) {
-            Ok(texts) => texts,
-            Err(_) => return None,
+        let Ok(pair) = self.pair() else {
+            return None;
         };
-        let Some(pair) = wordless_pair(alloc, &texts, &self.options(), kind) else {
+        match self.reporting(alloc, &pair) {
+            Some(automata) => Some(automata),
+            None => None,
+        }
+    }
+
+    /// The automata of the patterns without their looks at words, if they can be made.
+    fn wordless_automata(&self, alloc: Global) -> Option<GrowingRegex>
+        ensures { IfSome result (AreWordlessAutomataOf self.now LeftmostFirst) }
+    {
+        let Some(trees) = self.trees() else {
+            return None;
+        };
+        let Some(pair) = wordless_pair(alloc, trees, &self.options()) else {
             return None;
         };
         match self.growing(alloc, pair) {
+            Some(automata) => Some(automata),
+            None => None,
+        }
+    }
+
+    /// The automata that report which patterns match without looks at words, if the cache has automata without these.
+    fn wordless_reporters(&self, alloc: Global, cache: &Cache) -> Option<GrowingRegex>
+        requires { IsCacheOf self.now cache.now }
+        ensures { IfSome result (AreWordlessAutomataOf self.now AllMatches) }
+    {
+        let Some(wordless) = &cache.wordless else {
+            return None;
+        };
+        let Ok(pair) = wordless.regex() else {
+            return None;
+        };
+        match self.reporting(alloc, &pair) {
             Some(automata) => Some(automata),
             None => None,
         }
@@ -156,7 +182,7 @@ impl Regex {
         ensures { IsCacheOf self.now cache.new }
     {
         if cache.wordless.is_none() {
-            let made = self.wordless_automata(alloc, MatchKind::LeftmostFirst);
+            let made = self.wordless_automata(alloc);
             drop(mem::replace(&mut cache.wordless, made));
         }
     }
@@ -166,10 +192,12 @@ impl Regex {
         requires { IsCacheOf self.now cache.old }
         ensures { IsCacheOf self.now cache.new }
     {
-        if cache.wordless_overlapping.is_none() {
-            let made = self.wordless_automata(alloc, MatchKind::All);
-            drop(mem::replace(&mut cache.wordless_overlapping, made));
+        if cache.wordless_overlapping.is_some() {
+            return;
         }
+        self.prepare_wordless(alloc, cache);
+        let made = self.wordless_reporters(alloc, cache);
+        drop(mem::replace(&mut cache.wordless_overlapping, made));
     }
 
     /// Takes the toolchain's programs out of the cache. They are made if there are none yet.

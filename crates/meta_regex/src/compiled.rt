@@ -1,6 +1,7 @@
 //! A regex of several patterns.
-ghost use Rattle.std.specs.Prelude.{◌≡◌, IfErr, IfOk, length, map, string_bytes};
+ghost use Rattle.std.specs.Prelude.{◌≡◌, IfErr, IfOk, IfSome, length, map, string_bytes};
 ghost use Rattle.search_types.specs.declared.match_kind.MatchKind.TheVariants.{LeftmostFirst};
+ghost use Rattle.pattern_search.specs.Texts.{AllMean};
 ghost use Rattle.meta_regex.specs.Regexes.{AreReportedOf, IsMadeOf, IsNewError, config_by};
 ghost use Rattle.meta_regex.specs.Starts.{AreStartsOf};
 ghost use Rattle.meta_regex.specs.Ways.{HasWay};
@@ -12,8 +13,9 @@ use crate::options::Options;
 use crate::short_loops::all_have_short_loops;
 use crate::texts::owned;
 use crate::ways::Way;
+use crate::wordless::if_they_look_for_words;
 use growing_regex::shared;
-use search_types::MatchKind;
+use hir_core::Hir;
 use std::alloc::{AllocError, Global};
 use std::marker::Model;
 use std::sync::Arc;
@@ -35,6 +37,8 @@ const CANDIDATE_PARTS: usize = 24;
 pub struct Regex {
     pair: Arc<regex_pair::regex::Regex>,
     texts: Vec<String>,
+    /// The trees of the patterns, if automata can give up on these.
+    trees: Option<Vec<Hir>>,
     options: Options,
     loops: bool,
     /// What literals say of where matches start.
@@ -46,8 +50,9 @@ pub struct Regex {
 }
 
 impl Model for Regex {
-    ghost use Rattle.std.specs.Prelude.{map, string_bytes};
+    ghost use Rattle.std.specs.Prelude.{IfSome, map, string_bytes};
     ghost use Rattle.search_types.specs.declared.match_kind.MatchKind.TheVariants.{LeftmostFirst};
+    ghost use Rattle.pattern_search.specs.Texts.{AllMean};
     ghost use Rattle.meta_regex.specs.Options.{config_of};
     ghost use Rattle.meta_regex.specs.Regexes.{RegexValue, AreReportedOf};
     ghost use Rattle.meta_regex.specs.Starts.{AreStartsOf};
@@ -59,7 +64,8 @@ impl Model for Regex {
 
     ghost invariant = { λ r. AreReportedOf (config_of r.options) (map string_bytes r.texts.items) LeftmostFirst r.loops r.pair.value
         × AreStartsOf (config_of r.options) (map string_bytes r.texts.items) r.starts
-        × HasWay (config_of r.options) (map string_bytes r.texts.items) r.loops r.starts r.way };
+        × HasWay (config_of r.options) (map string_bytes r.texts.items) r.loops r.starts r.way
+        × IfSome r.trees (λ xs. AllMean (config_of r.options) (map string_bytes r.texts.items) xs.items) };
 }
 
 impl Regex {
@@ -68,7 +74,7 @@ impl Regex {
         ensures made { IfOk result (IsMadeOf options.now (map (λ t. t.now) texts.now)) }
         ensures refused { IfErr result (IsNewError options.now (map (λ t. t.now) texts.now)) }
     {
-        let built = match build_pair(alloc, texts, options, MatchKind::LeftmostFirst) {
+        let built = match build_pair(alloc, texts, options) {
             Ok(built) => built,
             Err(e) => return Err(e),
         };
@@ -86,6 +92,7 @@ impl Regex {
         Ok(Regex {
             pair,
             texts: copies,
+            trees: if_they_look_for_words(built.trees),
             options: *options,
             loops: built.loops,
             starts,
@@ -106,6 +113,16 @@ impl Regex {
         ensures { map string_bytes result.now ≡ self.now.texts }
     {
         &self.texts
+    }
+
+    /// The trees of its patterns, if automata can give up on these.
+    pub(crate) fn trees(&self) -> Option<&[Hir]>
+        ensures { IfSome result (λ xs. AllMean (config_by self.now) self.now.texts xs.now) }
+    {
+        match &self.trees {
+            Some(trees) => Some(trees.as_slice()),
+            None => None,
+        }
     }
 
     /// The options with which it was made.

@@ -29,7 +29,7 @@ pub struct Options {
 
 impl Options {
     /// The options of both automata, which find matches of this kind.
-    fn dfa(&self, kind: MatchKind) -> dfa::Config
+    pub(crate) fn dfa(&self, kind: MatchKind) -> dfa::Config
         ensures { result ≡ dfa_options_of self.now kind }
     {
         let config = dfa::Config::new()

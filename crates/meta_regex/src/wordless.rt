@@ -1,11 +1,8 @@
 //! Searches for the patterns without their looks at words by characters.
-ghost use Rattle.std.specs.Prelude.{◌≡◌, ◌≤◌, ℕ, List, IfOk, IfSome, length, map, option_map};
+ghost use Rattle.std.specs.Prelude.{◌≡◌, ◌≤◌, ℕ, List, IfOk, IfSome, length, option_map};
 ghost use Rattle.regex_syntax.specs.declared.Config.{Config as TextConfig};
-ghost use Rattle.hir_core.specs.Tree.{Tree};
-ghost use Rattle.line_trees.specs.WordlessTrees.{wordless_tree};
 ghost use Rattle.search_types.specs.declared.match_kind.MatchKind.TheVariants.{LeftmostFirst};
 ghost use Rattle.pattern_search.specs.Texts.{AllMean};
-ghost use Rattle.meta_regex.specs.Options.{config_of};
 ghost use Rattle.meta_regex.specs.Wordless.{AreWordlessOf, MayBeginAt};
 
 use crate::options::Options;
@@ -15,23 +12,25 @@ use hir_regex::headline::searches_answer_leftmost_whatever_the_loops;
 use hir_regex::{Settings, build, see_bytes};
 use line_trees::all_wordless_trees;
 use line_trees::laws::a_wordless_tree_matches_as_much;
-use pattern_search::{parse_all, search_from};
+use pattern_search::search_from;
 use regex_pair::regex::Regex;
 use search_types::{Match, MatchError, MatchKind};
 use std::alloc::Global;
 
-/// The trees of the patterns without their looks at words by characters.
-fn wordless_trees(alloc: Global, texts: &[&str], options: &Options) -> Option<Vec<Hir>>
-    ensures { IfSome result (λ ws. (xs : List Tree) × AllMean (config_of options.now) (map (λ t. t.now) texts.now) xs
-        × (ws.items ≡ map wordless_tree xs)) }
+/// Whether one of the trees looks for words by characters. Automata of these can give up.
+fn one_looks_for_words(trees: &[Hir]) -> bool {
+    trees.iter().any(|tree| tree.properties().look_set().contains_word_unicode())
+}
+
+/// The trees, if one of them looks for words by characters.
+pub(crate) fn if_they_look_for_words(trees: Vec<Hir>) -> Option<Vec<Hir>>
+    ensures { IfSome result (λ kept. kept.items ≡ trees.items) }
 {
-    let Ok(trees) = parse_all(alloc, texts, &options.syntax) else {
-        return None;
-    };
-    let Ok(wordless) = all_wordless_trees(alloc, &trees) else {
-        return None;
-    };
-    Some(wordless)
+    if one_looks_for_words(&trees) {
+        Some(trees)
+    } else {
+        None
+    }
 }
 
 /// The start of a match, if there is one.
@@ -44,23 +43,20 @@ fn start_of(found: Option<Match>) -> Option<usize>
     }
 }
 
-/// Builds the automata of the patterns without their looks at words, if that is possible. They find matches of this kind in any bytes.
-pub(crate) fn wordless_pair(
-    alloc: Global,
-    texts: &[&str],
-    options: &Options,
-    kind: MatchKind,
-) -> Option<Regex>
-    ensures { IfSome result (AreWordlessOf (config_of options.now) (map (λ t. t.now) texts.now) kind) }
+/// Builds the automata of the patterns with these trees, without their looks at words, if that is possible. They find leftmost-first matches
+/// in any bytes.
+pub(crate) fn wordless_pair(alloc: Global, trees: &[Hir], options: &Options) -> Option<Regex>
+    ensures { IfSome result (λ pair. (config : TextConfig) (texts : List (List ℕ)) → AllMean config texts trees.now →
+        AreWordlessOf config texts LeftmostFirst pair) }
 {
-    let Some(trees) = wordless_trees(alloc, texts, options) else {
+    let Ok(wordless) = all_wordless_trees(alloc, trees) else {
         return None;
     };
     let settings = Settings {
         utf8: false,
-        ..options.settings(kind)
+        ..options.settings(MatchKind::LeftmostFirst)
     };
-    let Ok(pair) = build(alloc, &trees, &settings) else {
+    let Ok(pair) = build(alloc, &wordless, &settings) else {
         return None;
     };
     Some(pair)

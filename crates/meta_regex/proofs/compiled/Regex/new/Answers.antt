@@ -8,6 +8,7 @@ use Rattle.meta_regex.specs.Options.{config_of}
 use Rattle.meta_regex.specs.Regexes.{AreReportedOf}
 use Rattle.meta_regex.specs.Starts.{AreTreesOf, DescribesStarts}
 use Rattle.meta_regex.specs.Ways.{IsWayOf}
+use Rattle.meta_regex.proofs.CacheLemmas.{kept_mean}
 use Rattle.meta_regex.proofs.compiled.Regex.new.Goals as goal
 
 pub invariant_of-result : goal.invariant_of-result
@@ -29,6 +30,10 @@ invariant_of-result c = (
     described = subst (λ (xs : List Tree). DescribesStarts c.of-starts.result (alternation xs)) c.deref-2.ensures.value c.of-starts.ensures;
     found_so = subst (λ (xs : List Tree). IsWayOf c.of-way.result xs) c.deref-3.ensures.value c.of-way.ensures;
   },
+  kept_mean (config_of c.args.options.now) (map string_bytes c.in-Ok-owned.copies.items) c.in-Ok.built.trees.items c.if_they_look_for_words.result
+      (subst (λ (ts : List (List ℕ)). AllMean (config_of c.args.options.now) ts c.in-Ok.built.trees.items) (sym c.in-Ok-owned.ensures)
+      c.in-Ok.ensures.trees.mean)
+      c.if_they_look_for_words.ensures,
 )
 
 pub returns-clause-made : goal.returns-clause-made
