@@ -199,8 +199,8 @@ hanneddois_status hanneddois_new(
  * Nothing is parsed or compiled: a clone gets empty caches, which takes some 5 microseconds, and memory in proportion to
  * the states of the automata and to the patterns. That is 7 KB for a literal, and 300 KB for [\w\d]{20}. Each clone makes for itself what its
  * searches need later: the slower regexes, the automaton of hanneddois_matching_patterns, and what finds groups. With
- * HANNEDDOIS_MATCHING_PATTERNS the call makes that automaton at once, which takes about half as long as hanneddois_new.
- * With HANNEDDOIS_GROUPS it makes what finds groups at once.
+ * HANNEDDOIS_MATCHING_PATTERNS the call makes that automaton at once, by copies, which takes about an eighth of the time
+ * of hanneddois_new. With HANNEDDOIS_GROUPS it makes what finds groups at once.
  *
  * Returns HANNEDDOIS_OK; HANNEDDOIS_BAD_ARGUMENT if *from is empty; or HANNEDDOIS_NO_MEMORY. If it doesn't return
  * HANNEDDOIS_OK, *to is empty. What *to held before is freed in any case; this is tested.
